@@ -1,9 +1,12 @@
 // Kinds of weight: what a link costs, how costs compare and how they add up.
 ghost use Rattle.weight.specs.Algebra.{Algebra};
-ghost use Rattle.weight.specs.Numbers.{delay, repair};
+ghost use Rattle.weight.specs.Numbers.{delay, micros-of, repair};
+ghost use Prim.Native.Nat.{ℕ, _-_, _^_, min};
 ghost use mathlib.Core.Path.{_≡_};
+
 pub mod delay;
 pub mod repair;
+
 use delay::Delay;
 use repair::Repair;
 
@@ -29,16 +32,23 @@ pub trait Weight: Copy {
         ensures { λ r. ⌜ r ≡ algebra .value number ⌝ };
 }
 
+// The delay of so many microseconds.
+fn delay_of(micros: u64) -> Delay
+    ensures { λ r. ⌜ ((n : ℕ) → micros ≡ min n (2 ^ 64 - 1) → r ≡ micros-of n) ⌝ }
+{
+    Delay { micros }
+}
+
 // Delays add up, and a sum stops at the largest value.
 pub impl Weight for Delay as DelayWeight {
     ghost algebra = { delay };
 
     fn zero() -> Delay {
-        Delay { micros: 0 }
+        delay_of(0)
     }
 
     fn add(self, other: Delay) -> Delay {
-        Delay { micros: self.micros.saturating_add(other.micros) }
+        delay_of(self.micros.saturating_add(other.micros))
     }
 
     fn below(self, other: Delay) -> bool {
@@ -46,7 +56,7 @@ pub impl Weight for Delay as DelayWeight {
     }
 
     fn of_number(number: u32) -> Delay {
-        Delay { micros: u64::from(number) }
+        delay_of(u64::from(number))
     }
 }
 
@@ -59,7 +69,9 @@ pub impl Weight for Repair as RepairWeight {
     }
 
     fn add(self, other: Repair) -> Repair {
-        Repair { hours: self.hours.max(other.hours) }
+        Repair {
+            hours: self.hours.max(other.hours),
+        }
     }
 
     fn below(self, other: Repair) -> bool {
@@ -67,6 +79,8 @@ pub impl Weight for Repair as RepairWeight {
     }
 
     fn of_number(number: u32) -> Repair {
-        Repair { hours: u64::from(number) }
+        Repair {
+            hours: u64::from(number),
+        }
     }
 }

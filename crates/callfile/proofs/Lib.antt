@@ -1,0 +1,2 @@
+pub mod Offending
+pub mod Starting

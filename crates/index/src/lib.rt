@@ -1,0 +1,4 @@
+// The index: a network and its book, and the calls on them.
+pub mod book;
+pub mod calls;
+pub mod fault;

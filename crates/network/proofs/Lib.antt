@@ -1,0 +1,4 @@
+pub mod Alterations
+pub mod Granting
+pub mod Overwritten
+pub mod Sound
