@@ -79,15 +79,12 @@ module _ {V : Type 0} (b : BookState V) (sites hubs entries : ℕ) where
         );
       }
 
-  module _ (k : Algebra V) (fault : Option IndexFault) (r : Result (Unit {0}) IndexFault) where
-    pub renewed-not : (e : IndexFault) → Err e ≡ checked fault → r ≡ Err e → Renewed fault k sites hubs entries b r b
-    renewed-not e h same = subst (λ f. Renewed f k sites hubs entries b r b) (sym (fault-refused fault e h)) (same, refl)
+  module _ (k : Algebra V) where
+    pub renewed-not : (e : IndexFault) → Err e ≡ checked (fault-in b sites hubs entries) → Renewed k sites hubs entries b (Err e) b
+    renewed-not e h = (h, sym (ap (λ o. by-fault o b (fresh k b sites hubs entries)) (fault-refused (fault-in b sites hubs entries) e h)))
 
-    pub renewed-now : (after : BookState V) → Ok tt ≡ checked fault → r ≡ Ok tt → after ≡ fresh k b sites hubs entries → Renewed fault k sites hubs entries b r after
-    renewed-now after h same is = subst (λ f. Renewed f k sites hubs entries b r after) (sym (fault-none fault h)) (same, is)
-
-    pub made-from-renewed : (after : BookState V) → Renewed fault k sites hubs entries b r after → after ≡ by-fault fault b (fresh k b sites hubs entries)
-    made-from-renewed after h = elim fault as (λ f. Renewed f k sites hubs entries b r after → after ≡ by-fault f b (fresh k b sites hubs entries)) [ None ↦ λ x. x .1 | Some f ↦ λ x. x .1 ] h
+    pub renewed-now : (after : BookState V) → Ok tt ≡ checked (fault-in b sites hubs entries) → after ≡ fresh k b sites hubs entries → Renewed k sites hubs entries b (Ok tt) after
+    renewed-now after h is = (h, is ∙ sym (ap (λ o. by-fault o b (fresh k b sites hubs entries)) (fault-none (fault-in b sites hubs entries) h)))
 
   -- a book that was emptied and given blank hub places is new
   pub fresh-is : (k : Algebra V) (hs : List (Option ℕ)) (built : Bool) (after : BookState V) → hs ≡ blanked hubs None (b .hub-list)

@@ -8,8 +8,7 @@ use denote.Ref.{now}
 use Rattle.std.specs.declared.option.Option.{Option}
 use Rattle.std.specs.declared.option.Option.the-variants.{None, Some}
 use Rattle.std.specs.declared.result.Result.{Result}
-use Rattle.std.specs.declared.result.Result.the-variants.{Ok, Err}
-use Rattle.network.specs.Sizes.{or-then}
+use Rattle.network.specs.Sizes.{or-then, checked}
 use Rattle.weight.specs.Algebra.{Algebra}
 use Rattle.index.specs.Hubs.{listed, listing}
 use Rattle.index.specs.Sizes.{over, short}
@@ -135,7 +134,7 @@ by-fault None memory new = new
 abbrev pub Made : {V : Type 0} → Algebra V → ℕ → ℕ → ℕ → BookState V → BookState V → Type 0
 Made k sites hub-places entry-places memory b = b ≡ by-fault (fault-in memory sites hub-places entry-places) memory (fresh k memory sites hub-places entry-places)
 
--- Made anew over its own memory: a fault is answered, and leaves all as it was.
-abbrev pub Renewed : {V : Type 0} → Option IndexFault → Algebra V → ℕ → ℕ → ℕ → BookState V → Result (Unit {0}) IndexFault → BookState V → Type 0
-Renewed (Some fault) k sites hub-places entry-places before r after = (r ≡ Err fault) × (after ≡ before)
-Renewed None k sites hub-places entry-places before r after = (r ≡ Ok tt) × (after ≡ fresh k before sites hub-places entry-places)
+-- Made anew over its own memory: a fault is answered.
+abbrev pub Renewed : {V : Type 0} → Algebra V → ℕ → ℕ → ℕ → BookState V → Result (Unit {0}) IndexFault → BookState V → Type 0
+Renewed k sites hub-places entry-places before r after =
+    (r ≡ checked (fault-in before sites hub-places entry-places)) × Made k sites hub-places entry-places before after

@@ -10,7 +10,7 @@ use lib.Seq.{getD-take}
 use denote.Ref.{RefT, now}
 use Rattle.std.proofs.shelf.Lists.{drop-map}
 use Rattle.std.proofs.shelf.Tests.{both-ways}
-use Rattle.register.specs.Chains.{Kept, Spared, Inside, Firsts, Lasts, Ones, Others, records-of, ends-of, first-from, last-from, code}
+use Rattle.register.specs.Chains.{struck-record, reweighed-record, Kept, Spared, Inside, Firsts, Lasts, Ones, Others, records-of, ends-of, first-from, last-from, code}
 use Rattle.network.specs.Registers.{Given, Meaning, with-given, altered, struck, reweighed, stands}
 use Rattle.register.specs.Memories.{given-of, meaning}
 use Rattle.register.specs.declared.memory.LinkRecord.{LinkRecord}
@@ -109,12 +109,6 @@ module _ {V : Type 0} (f : LinkRecord V → LinkRecord V) (mild : Mild f) (h : G
       }
 
 -- ---- the two alterations
-
-abbrev pub struck-record : {V : Type 0} → LinkRecord V → LinkRecord V
-struck-record r = record { one = r .one; other = r .other; weight = r .weight; standing = false; «next_one» = r .«next_one»; «next_other» = r .«next_other» }
-
-abbrev pub reweighed-record : {V : Type 0} → V → LinkRecord V → LinkRecord V
-reweighed-record w r = record { one = r .one; other = r .other; weight = w; standing = r .standing; «next_one» = r .«next_one»; «next_other» = r .«next_other» }
 
 module _ {V : Type 0} (m : Memory V) (kept : Kept m) (n : ℕ) (lt : n < m .used) (d : LinkRecord V) (rs : RefT (List (LinkRecord V))) where
   pub struck-kept : now rs ≡ set (now (m .records)) n (struck-record (getD (now (m .records)) n d)) → Altered m (altered struck n (meaning m .given)) (rewritten m rs)

@@ -1,7 +1,7 @@
 -- How a register finds the links of a site: a chain through the records of the links there, by ascending number.
 -- These definitions are internal to the register; its contracts speak of its meaning alone.
 use mathlib.Core.Path.{_≡_}
-use mathlib.Core.Bool.{Bool, true, cond, _||_}
+use mathlib.Core.Bool.{Bool, false, cond, _||_}
 use mathlib.Core.List.{List, [], _∷_, map}
 use Prim.Native.Nat.{ℕ, suc, _<_, _≤_}
 use lib.Dec.{eqb}
@@ -63,12 +63,20 @@ pointed u n (Some i) rs = altered (with-next u n) i rs
 abbrev pub ended : ℕ → SiteChain → SiteChain
 ended n c = record { first = or-else (c .first) (Some n); last = Some n }
 
+-- ---- how a link is altered, which leaves the chains
+
+abbrev pub struck-record : {V : Type 0} → LinkRecord V → LinkRecord V
+struck-record r = record { one = r .one; other = r .other; weight = r .weight; standing = false; «next_one» = r .«next_one»; «next_other» = r .«next_other» }
+
+abbrev pub reweighed-record : {V : Type 0} → V → LinkRecord V → LinkRecord V
+reweighed-record w r = record { one = r .one; other = r .other; weight = w; standing = r .standing; «next_one» = r .«next_one»; «next_other» = r .«next_other» }
+
+-- ---- what the memory keeps
+
 -- an optional number as a number: 0 for none, and one more for each other
 abbrev pub code : Option ℕ → ℕ
 code None = 0
 code (Some i) = suc i
-
--- ---- what the memory keeps
 
 -- the records of the links given so far
 abbrev pub records-of : {V : Type 0} → Memory V → List (LinkRecord V)

@@ -4,14 +4,13 @@ use mathlib.Core.Bool.{Bool, true, false, cond}
 use mathlib.Core.List.{List, [], _∷_, _++_, map}
 use Prim.Native.Nat.{ℕ}
 use lib.ListN.{length, take, drop, replicate}
-use denote.Ref.{now}
+use denote.Ref.{RefT, now}
 use Rattle.std.specs.declared.option.Option.{Option}
 use Rattle.std.specs.declared.option.Option.the-variants.{None, Some}
 use Rattle.std.specs.declared.result.Result.{Result}
-use Rattle.std.specs.declared.result.Result.the-variants.{Ok, Err}
 use Rattle.weight.specs.Algebra.{Algebra}
 use Rattle.network.specs.Registers.{Given, Meaning}
-use Rattle.network.specs.Sizes.{over, short, or-then}
+use Rattle.network.specs.Sizes.{over, short, or-then, checked}
 use Rattle.network.specs.declared.fault.NetworkFault.{NetworkFault}
 use Rattle.register.specs.declared.Register.{Register}
 use Rattle.register.specs.declared.memory.LinkRecord.{LinkRecord}
@@ -50,13 +49,25 @@ no-chain = record { first = None; last = None }
 abbrev pub blank-record : {V : Type 0} → Algebra V → LinkRecord V
 blank-record k = record { one = 0; other = 0; weight = k .zero; standing = false; «next_one» = None; «next_other» = None }
 
--- A new register, over chains and records that held cs and rs: of the given sizes, without links, its chains
--- empty, and all other memory as it was. Where there is a fault, it has no sites and all memory is as it was.
-abbrev pub Fresh : {V : Type 0} → Option NetworkFault → ℕ → ℕ → List SiteChain → List (LinkRecord V) → Memory V → Type 0
-Fresh (Some fault) sites places cs rs m = (m .sites ≡ 0) × (m .places ≡ 0) × (m .used ≡ 0) × (now (m .chains) ≡ cs) × (now (m .records) ≡ rs)
-Fresh None sites places cs rs m = (m .sites ≡ sites) × (m .places ≡ places) × (m .used ≡ 0) × (now (m .chains) ≡ replicate sites no-chain ++ drop sites cs) × (now (m .records) ≡ rs)
+-- the fault of these sizes over the memory of a register
+abbrev pub fault-in : {V : Type 0} → Memory V → ℕ → ℕ → Option NetworkFault
+fault-in m sites places = size-fault sites (length (now (m .chains))) places (length (now (m .records)))
 
--- Made anew over its own memory: a fault is answered, and leaves all as it was.
-abbrev pub Renewed : {V : Type 0} → Option NetworkFault → ℕ → ℕ → Memory V → Result (Unit {0}) NetworkFault → Memory V → Type 0
-Renewed (Some fault) sites places before r after = (r ≡ Err fault) × (after ≡ before)
-Renewed None sites places before r after = (r ≡ Ok tt) × Fresh None sites places (now (before .chains)) (now (before .records)) after
+-- memory before a register is made of it: a register with no sites
+abbrev pub lent : {V : Type 0} → RefT (List SiteChain) → RefT (List (LinkRecord V)) → Memory V
+lent chains records = record { sites = 0; places = 0; used = 0; chains = chains; records = records }
+
+-- What comes of sizes and memory: where there is a fault, all is as it was; else a register of these sizes,
+-- without links, its chains empty, and all other memory as it was.
+abbrev pub Made-by : {V : Type 0} → Option NetworkFault → ℕ → ℕ → Memory V → Memory V → Type 0
+Made-by (Some fault) sites places before after = after ≡ before
+Made-by None sites places before after =
+    (after .sites ≡ sites) × (after .places ≡ places) × (after .used ≡ 0)
+    × (now (after .chains) ≡ replicate sites no-chain ++ drop sites (now (before .chains))) × (now (after .records) ≡ now (before .records))
+
+abbrev pub Made : {V : Type 0} → ℕ → ℕ → Memory V → Memory V → Type 0
+Made sites places before after = Made-by (fault-in before sites places) sites places before after
+
+-- Made anew over its own memory: a fault is answered.
+abbrev pub Renewed : {V : Type 0} → ℕ → ℕ → Memory V → Result (Unit {0}) NetworkFault → Memory V → Type 0
+Renewed sites places before r after = (r ≡ checked (fault-in before sites places)) × Made sites places before after

@@ -1,5 +1,5 @@
 // The changes of a register.
-ghost use Rattle.register.specs.Chains.{Kept, Spared, with-next, pointed, ended};
+ghost use Rattle.register.specs.Chains.{Kept, Spared, with-next, pointed, ended, struck-record, reweighed-record};
 ghost use Rattle.network.specs.Registers.{stands, with-link, link-rule, strike-rule, reweigh-rule};
 ghost use Rattle.register.specs.Memories.{meaning};
 ghost use Rattle.network.specs.Rulings.{Follows};
@@ -50,6 +50,22 @@ fn point_on<W: Weight>(records: &mut [LinkRecord<W>], last: Option<u32>, site: u
     if let Some(last) = last {
         records[last as usize] = with_next(records[last as usize], site, number);
     }
+}
+
+// Strikes the link of a record, in place.
+fn strike_at<W: Weight>(records: &mut [LinkRecord<W>], number: usize)
+    requires { ⌜ number < length (now records) ⌝ }
+    ensures { λ _. ⌜ ((d : LinkRecord W) → now (records .exit) ≡ set (now (records .entry)) number (struck-record (getD (now (records .entry)) number d))) ⌝ }
+{
+    records[number].standing = false;
+}
+
+// Gives the link of a record another weight, in place.
+fn reweigh_at<W: Weight>(records: &mut [LinkRecord<W>], number: usize, weight: W)
+    requires { ⌜ number < length (now records) ⌝ }
+    ensures { λ _. ⌜ ((d : LinkRecord W) → now (records .exit) ≡ set (now (records .entry)) number (reweighed-record weight (getD (now (records .entry)) number d))) ⌝ }
+{
+    records[number].weight = weight;
 }
 
 impl<'a, W: Weight> Memory<'a, W> {
@@ -142,7 +158,7 @@ impl<'a, W: Weight> Memory<'a, W> {
         if !self.stands(number) {
             return Err(NetworkFault::NoSuchLink(number));
         }
-        self.records[number as usize].standing = false;
+        strike_at(self.records, number as usize);
         Ok(number)
     }
 
@@ -160,7 +176,7 @@ impl<'a, W: Weight> Memory<'a, W> {
         if weight > HEAVIEST {
             return Err(NetworkFault::TooHeavy(weight));
         }
-        self.records[number as usize].weight = W::of_number(weight);
+        reweigh_at(self.records, number as usize, W::of_number(weight));
         Ok(number)
     }
 }

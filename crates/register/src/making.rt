@@ -1,7 +1,6 @@
 // How a register is made, over memory that its user lends.
-ghost use Rattle.register.specs.Memories.{register-meaning, size-fault, Fresh, Renewed, no-chain, blank-record};
+ghost use Rattle.register.specs.Memories.{Made, Renewed, blank-record, lent, no-chain, register-meaning, size-fault};
 ghost use Rattle.network.specs.Sizes.{checked};
-ghost use lib.ListN.{length};
 ghost use mathlib.Core.Path.{_≡_};
 use crate::Register;
 use crate::memory::LinkRecord;
@@ -42,7 +41,7 @@ impl<'a, W: Weight> Register<'a, W> {
         chains: &'a mut [SiteChain],
         records: &'a mut [LinkRecord<W>],
     ) -> Register<'a, W>
-        ensures { λ r. ⌜ Fresh (size-fault sites (length (now (chains .entry))) places (length (now (records .entry)))) sites places (now (chains .entry)) (now (records .entry)) (r .memory) ⌝ }
+        ensures { λ r. ⌜ Made sites places (lent (chains .entry) (records .entry)) (r .memory) ⌝ }
     {
         let mut register = Register {
             memory: Memory {
@@ -71,7 +70,7 @@ impl<'a, W: Weight> Register<'a, W> {
 
     // The register made anew over its own memory; a refusal leaves it as it was.
     pub fn renew(&mut self, sites: u32, places: u32) -> Result<(), NetworkFault>
-        ensures { λ r. ⌜ Renewed (size-fault sites (length (now (now (self .entry) .memory .chains))) places (length (now (now (self .entry) .memory .records)))) sites places (now (self .entry) .memory) r (now (self .exit) .memory) ⌝ }
+        ensures { λ r. ⌜ Renewed sites places (now (self .entry) .memory) r (now (self .exit) .memory) ⌝ }
     {
         self.memory.renew(sites, places)
     }
@@ -79,7 +78,7 @@ impl<'a, W: Weight> Register<'a, W> {
 
 impl<'a, W: Weight> Memory<'a, W> {
     fn renew(&mut self, sites: u32, places: u32) -> Result<(), NetworkFault>
-        ensures { λ r. ⌜ Renewed (size-fault sites (length (now (now (self .entry) .chains))) places (length (now (now (self .entry) .records)))) sites places (now (self .entry)) r (now (self .exit)) ⌝ }
+        ensures { λ r. ⌜ Renewed sites places (now (self .entry)) r (now (self .exit)) ⌝ }
     {
         check_sizes(sites, self.chains.len(), places, self.records.len())?;
         overwrite(&mut self.chains[0..sites as usize], SiteChain::blank());

@@ -89,7 +89,7 @@ impl<'a, W: Weight> Tables<'a, W> {
     // Makes the book anew over its own memory: of these sizes, blank, with no hub and no build. A refusal leaves it as it was.
     fn renew(&mut self, sites: u32, hub_places: u32, entry_places: u32) -> Result<(), IndexFault>
         requires { ⌜ Kept (now self) ⌝ }
-        ensures renewed { λ r. ⌜ Renewed (fault-in (tables-state (now (self .entry))) sites «hub_places» «entry_places») (W·Weight .algebra) sites «hub_places» «entry_places» (tables-state (now (self .entry))) r (tables-state (now (self .exit))) ⌝ }
+        ensures renewed { λ r. ⌜ Renewed (W·Weight .algebra) sites «hub_places» «entry_places» (tables-state (now (self .entry))) r (tables-state (now (self .exit))) ⌝ }
         ensures kept { λ r. ⌜ Kept (now (self .exit)) ⌝ }
     {
         self.check_sizes(sites, hub_places, entry_places)?;
@@ -140,7 +140,7 @@ impl<'a, W: Weight> Book<'a, W> {
         hub_places: u32,
         entry_places: u32,
     ) -> Result<(), IndexFault>
-        ensures { λ r. ⌜ Renewed (fault-in (state (now (self .entry))) sites «hub_places» «entry_places») (W·Weight .algebra) sites «hub_places» «entry_places» (state (now (self .entry))) r (state (now (self .exit))) ⌝ }
+        ensures { λ r. ⌜ Renewed (W·Weight .algebra) sites «hub_places» «entry_places» (state (now (self .entry))) r (state (now (self .exit))) ⌝ }
     {
         self.tables.renew(sites, hub_places, entry_places)
     }
