@@ -4,3 +4,4 @@ pub mod Links
 pub mod Registers
 pub mod Rulings
 pub mod Sizes
+pub mod Walks

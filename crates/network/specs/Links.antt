@@ -35,3 +35,8 @@ Absent m (l ∷ ls) = (l .mark ≡ m → ⊥) × Absent m ls
 abbrev pub Apart : {V : Type 0} → List (Link V) → Type 0
 Apart [] = Unit {0}
 Apart (l ∷ ls) = Absent (l .mark) ls × Apart ls
+
+-- what is still to be told where the next link is o: the list from that link on
+abbrev pub left-at : {V : Type 0} → List (Link V) → Option (Link V) → List (Link V)
+left-at ls None = []
+left-at ls (Some l) = from ls (l .mark)
