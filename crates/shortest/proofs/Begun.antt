@@ -1,4 +1,4 @@
--- A search over lent places, from blank ones to the labels that it leaves.
+-- A search over lent places, whatever they hold, to the labels that it leaves.
 use mathlib.Core.Path.{_≡_, refl, sym, ap, subst, _∙_}
 use mathlib.Core.Bool.{cond}
 use mathlib.Core.List.{List, _++_}
@@ -6,10 +6,9 @@ use mathlib.Core.Logic.{_⊎_, ⊎-elim}
 use Prim.Native.Nat.{ℕ, _+_, _-_, _<_, _≤_}
 use native.Mathlib.Omega.{arith}
 use lib.Dec.{ltb}
-use lib.ListN.{length, getD, take, drop, replicate, length-replicate, length-append, getD-replicate, take-append-drop}
-use lib.Seq.{getD-take}
-use Rattle.std.proofs.shelf.Lists.{length-take-le, getD-past}
-use Rattle.std.proofs.shelf.Tests.{cases-lt, cond-false, cond-true, le-ltb, lt-ltb}
+use lib.ListN.{length, getD, drop}
+use Rattle.std.proofs.shelf.Lists.{getD-past}
+use Rattle.std.proofs.shelf.Tests.{cond-true, lt-ltb}
 use Rattle.std.specs.declared.option.Option.{Option}
 use Rattle.std.specs.declared.option.Option.the-variants.{None, Some}
 use Rattle.weight.specs.Algebra.{Algebra}
@@ -22,51 +21,22 @@ use Rattle.shortest.specs.declared.waiting.Label.{Label}
 use Rattle.shortest.specs.declared.waiting.Waiting.{Waiting}
 use Rattle.shortest.proofs.Settled.{settled-count, settled-at, settled-place, some-same}
 
-no-place : {X : Type 0} {Y : Type 0} (x : X) → None ≡ Some x → Y
-no-place x e = let z : _≡_ {A = ℕ} 0 1 = cc in absurd (omega arith)
-
-module _ {V : Type 0} (k : Algebra V) (ws ws′ : List (Waiting V)) (sites : ℕ) (fits : sites ≤ length ws) (blank : take sites ws′ ≡ replicate sites blank-place) (beyond : drop sites ws′ ≡ drop sites ws) where
-  parts : (us : List (Waiting V)) → length us ≡ length (take sites us) + length (drop sites us)
-  parts us = ap length (sym (take-append-drop sites us)) ∙ length-append (take sites us) (drop sites us)
-
-  first-part : length (take sites ws′) ≡ sites
-  first-part = ap length blank ∙ length-replicate sites blank-place
-
-  pub blank-long : sites ≤ length ws′
-  blank-long = omega (arith, parts ws′, first-part)
-
-  blank-at : (i : ℕ) → i < sites → getD ws′ i blank-place ≡ blank-place
-  blank-at i lt = sym (getD-take sites ws′ i blank-place lt) ∙ ap (λ us. getD us i blank-place) blank ∙ getD-replicate sites i blank-place blank-place lt
-
-  unused : (i : ℕ) → InUse sites 0 0 i → ⊥
-  unused i used = ⊎-elim (λ (a : i < 0). omega arith) (λ (p : (sites ≤ i + 0) × (i < sites)). omega (arith, p .0, p .1)) used
-
-  -- nothing waits in blank places, and nothing is settled
-  pub blank-sound : Queued k ws′ sites 0 0
-  blank-sound = record {
-    fits = blank-long;
-    room = omega arith;
-    linked = record {
-      held = λ i used. absurd (unused i used);
-      found = λ s i lt e. no-place i (sym (ap (λ w. w .at) (blank-at s lt)) ∙ e);
-      used = λ i x lt e. no-place x (sym (ap (λ w. w .label) (blank-at i lt)) ∙ e);
-    };
-    ordered = λ i pos lt. absurd (omega arith);
-  }
-
-  pub blank-size : length ws′ ≡ length ws
-  blank-size = omega (arith, parts ws′, parts ws, first-part, ap length beyond, first-of-ws)
-    where
-      first-of-ws : length (take sites ws) ≡ sites
-      first-of-ws = length-take-le sites ws fits
+-- no place is in use at the start, so any memory will do
+pub empty-sound : {V : Type 0} (k : Algebra V) (ws : List (Waiting V)) (sites : ℕ) → sites ≤ length ws → Queued k ws sites 0 0
+empty-sound k ws sites fits = record {
+  fits = fits;
+  room = omega arith;
+  linked = record { held = λ i used. absurd (⊎-elim (λ (a : i < 0). omega arith) (λ (p : (sites ≤ i + 0) × (i < sites)). omega (arith, p .0, p .1)) used) };
+  ordered = λ i pos lt. absurd (omega arith);
+}
 
 -- what the search left in its queue, told of the lent places
-module _ {V : Type 0} (k : Algebra V) (g : Graph V) (source : ℕ) (cut : Option V) (ws vs us : List (Waiting V)) (sites done : ℕ) (as-many : sites ≡ g .sites) where
+module _ {V : Type 0} (k : Algebra V) (g : Graph V) (source : ℕ) (cut : Option V) (ws us : List (Waiting V)) (sites done : ℕ) (as-many : sites ≡ g .sites) where
   abbrev start : State V
-  start = record { places = vs; sites = sites; count = 0; settled = 0 }
+  start = record { places = ws; sites = sites; count = 0; settled = 0 }
 
-  pub left-in : (q : State V) → Searched k g source cut start q → source < sites → sites ≤ length ws → length vs ≡ length ws → drop sites vs ≡ drop sites ws → us ≡ q .places → done ≡ q .settled → Searched-in k g source cut ws done us
-  left-in q s there room size beyond e n =
+  pub left-in : (q : State V) → Searched k g source cut start q → source < sites → sites ≤ length ws → us ≡ q .places → done ≡ q .settled → Searched-in k g source cut ws done us
+  left-in q s there room e n =
       subst (λ zs. Searched-in k g source cut ws done zs) (sym e) (subst (λ m. Searched-in k g source cut ws m (q .places)) (sym n) all)
     where
       sound : Queued k (q .places) (g .sites) (q .count) (q .settled)
@@ -79,8 +49,8 @@ module _ {V : Type 0} (k : Algebra V) (g : Graph V) (source : ℕ) (cut : Option
       all = record {
         there = omega arith;
         room = omega arith;
-        size = s .spared .size ∙ size;
-        beyond = subst (λ m. drop m (q .places) ≡ drop m ws) as-many (s .spared .beyond ∙ beyond);
+        size = s .spared .size;
+        beyond = subst (λ m. drop m (q .places) ≡ drop m ws) as-many (s .spared .beyond);
         few = omega (arith, sound .room);
         count = settled-count k (q .places) (g .sites) (q .count) (q .settled) sound;
         found = subst (λ m. Found k g source cut (settled-labels (q .places) m (q .settled))) (s .spared .sites ∙ as-many) (s .found);

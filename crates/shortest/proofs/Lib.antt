@@ -1,5 +1,4 @@
 pub mod Begun
-pub mod Blanks
 pub mod Edits
 pub mod Entering
 pub mod Heaps
@@ -15,4 +14,3 @@ pub mod Settled
 pub mod Settling
 pub mod Sifted
 pub mod Turns
-pub mod Uses

@@ -45,7 +45,7 @@ module _ {V : Type 0} (a : Algebra V) (ws : List (Waiting V)) (sites count done 
   place-same s = at-put-label ws at (Some x) s
 
   old-place : (far .old .site < sites) × (place-of ws (far .old .site) ≡ Some at)
-  old-place = of-label ws sites (InUse sites count done) (q .linked) at (far .old) at-site (far .here)
+  old-place = of-label ws sites (InUse sites count done) (q .linked) at (far .old) (inl waits) (far .here)
 
   replaced-linked : Linked replaced sites (InUse sites count done)
   replaced-linked = record {
@@ -57,16 +57,6 @@ module _ {V : Type 0} (a : Algebra V) (ws : List (Waiting V)) (sites count done 
         let h = q .linked .held k u in
         (h .0, (label-old k ne ∙ h .1 .0, h .1 .1, place-same (h .0 .site) ∙ h .1 .2)))
         (cases-eq k at);
-    found = λ s i lt e.
-        let h = q .linked .found s i lt (sym (place-same s) ∙ e) in
-        ⊎-elim
-        (λ (z : i ≡ at).
-        let same : h .0 ≡ far .old = some-inside (h .0) (far .old) (sym (h .1 .0) ∙ ap (label-at ws) z ∙ far .here) in
-        (x, (ap (label-at replaced) z ∙ label-new, sym (far .site) ∙ ap (λ y. y .site) (sym same) ∙ h .1 .1, h .1 .2)))
-        (λ (ne : i ≡ at → ⊥). (h .0, (label-old i ne ∙ h .1 .0, h .1 .1, h .1 .2)))
-        (cases-eq i at);
-    used = λ k y lt e.
-        ⊎-elim (λ (z : k ≡ at). inl (omega arith)) (λ (ne : k ≡ at → ⊥). q .linked .used k y lt (sym (label-old k ne) ∙ e)) (cases-eq k at);
   }
 
   sooner-now : earlier a (label-at replaced at) (label-at ws at) ≡ true
@@ -93,7 +83,7 @@ module _ {V : Type 0} (a : Algebra V) (ws : List (Waiting V)) (sites count done 
     pub lowered-inside : Inside vs (at + 1)
     lowered-inside =
         subst (λ (z : List (Waiting V)). Inside z (at + 1)) (sym wrote)
-        (linked-inside replaced sites (InUse sites count done) replaced-linked (at + 1) (omega (arith, at-site)) (omega (arith, replaced-size, q .fits)))
+        (linked-inside replaced sites (InUse sites count done) replaced-linked (at + 1) (λ k lt. inl (omega arith)) (omega (arith, replaced-size, q .fits)))
 
     module _ (ordered : (n : ℕ) → at < n → OrderedBut a vs n at → Ordered a zs n) (moves : Moves (at + 1) vs zs) where
       done-it : Sifted a sites count done replaced zs
@@ -126,7 +116,7 @@ module _ {V : Type 0} (a : Algebra V) (ws : List (Waiting V)) (sites count done 
                   let old : label-at ws (v .0) ≡ Some y = sym (label-old (v .0) ne) ∙ v .1 .1 in
                   inr (
                     (v .0, (v .1 .0, old)),
-                    (λ s. ne (one-place ws sites (InUse sites count done) (q .linked) (v .0) at y (far .old) (omega (arith, v .1 .0, q .room)) at-site old (far .here) (s ∙ sym (far .site)))),
+                    (λ s. ne (one-place ws sites (InUse sites count done) (q .linked) (v .0) at y (far .old) (inl (v .1 .0)) (inl waits) old (far .here) (s ∙ sym (far .site)))),
                   ))
                   (cases-eq (v .0) at);
             });

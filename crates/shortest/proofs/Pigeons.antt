@@ -12,8 +12,8 @@ use Rattle.std.specs.declared.option.Option.the-variants.{None, Some}
 use Rattle.shortest.specs.declared.waiting.Label.{Label}
 use Rattle.shortest.specs.declared.waiting.Waiting.{Waiting}
 use Rattle.shortest.specs.Places.{label-at, place-of}
-use Rattle.shortest.specs.Queues.{Linked, InUse}
-use Rattle.shortest.proofs.Edits.{some-inside, none-some}
+use Rattle.shortest.specs.Queues.{Linked, InUse, Unlabelled}
+use Rattle.shortest.proofs.Edits.{some-inside}
 
 -- f without the value m, in whose place the last value comes
 abbrev shrunk : (ℕ → ℕ) → ℕ → ℕ → ℕ
@@ -69,7 +69,7 @@ unfolding site-of
 site-of-some o x e = ap site-of e
 
 module _ {V : Type 0} (ws : List (Waiting V)) (sites count done : ℕ) (linked : Linked ws sites (InUse sites count done)) (s : ℕ) (lt : s < sites)
-    (none : place-of ws s ≡ None) (full : sites ≤ count + done) where
+    (none : Unlabelled ws (InUse sites count done) s) (full : sites ≤ count + done) where
   -- the sites of all labels, and then s
   abbrev named : ℕ → ℕ
   named k = cond (eqb k sites) s (site-of (label-at ws k))
@@ -80,15 +80,21 @@ module _ {V : Type 0} (ws : List (Waiting V)) (sites count done : ℕ) (linked :
   named-last : named sites ≡ s
   named-last = cond-true (eqb sites sites) s (site-of (label-at ws sites)) (eq-eqb sites sites refl)
 
+  named-site : (k : ℕ) (lk : k < sites) → named k ≡ linked .held k (all-used k lk) .0 .site
+  named-site k lk =
+      let h = linked .held k (all-used k lk) in
+      cond-false (eqb k sites) s (site-of (label-at ws k)) (ne-eqb k sites (λ z. omega arith)) ∙ site-of-some (label-at ws k) (h .0) (h .1 .0)
+
   named-here : (k : ℕ) → k < sites → (named k < sites) × (place-of ws (named k) ≡ Some k)
   named-here k lk =
       let h = linked .held k (all-used k lk) in
-      let e : named k ≡ h .0 .site =
-      cond-false (eqb k sites) s (site-of (label-at ws k)) (ne-eqb k sites (λ z. omega arith)) ∙ site-of-some (label-at ws k) (h .0) (h .1 .0) in
+      let e = named-site k lk in
       (subst (λ (v : ℕ). v < sites) (sym e) (h .1 .1), ap (place-of ws) e ∙ h .1 .2)
 
   never : (k : ℕ) → k < sites → named k ≡ named sites → ⊥
-  never k lk e = none-some k (sym none ∙ ap (place-of ws) (sym named-last ∙ sym e) ∙ named-here k lk .1)
+  never k lk e =
+      let h = linked .held k (all-used k lk) in
+      none k (h .0) (all-used k lk) (h .1 .0) (sym (named-site k lk) ∙ e ∙ named-last)
 
   pub not-full : ⊥
   not-full =
@@ -109,6 +115,6 @@ module _ {V : Type 0} (ws : List (Waiting V)) (sites count done : ℕ) (linked :
       (cases-lt j sites))
       (cases-lt i sites))
 
-pub free-place : {V : Type 0} (ws : List (Waiting V)) (sites count done : ℕ) → Linked ws sites (InUse sites count done) → (s : ℕ) → s < sites → place-of ws s ≡ None → count + done < sites
+pub free-place : {V : Type 0} (ws : List (Waiting V)) (sites count done : ℕ) → Linked ws sites (InUse sites count done) → (s : ℕ) → s < sites → Unlabelled ws (InUse sites count done) s → count + done < sites
 free-place ws sites count done linked s lt none =
     ⊎-elim (λ h. h) (λ full. absurd (not-full ws sites count done linked s lt none full)) (cases-lt (count + done) sites)

@@ -4,6 +4,7 @@ use mathlib.Core.Bool.{Bool, true, false}
 use mathlib.Core.Logic.{_⊎_}
 use mathlib.Core.List.{List, [], _∷_, _++_}
 use Prim.Native.Nat.{ℕ, zero, suc, _+_, _-_, _<_, _≤_}
+use lib.Dec.{eqb}
 use lib.ListN.{length, drop}
 use denote.Ref.{now}
 use Rattle.std.specs.declared.option.Option.{Option}
@@ -22,14 +23,10 @@ use Rattle.shortest.specs.Order.{Ordered, sooner}
 abbrev pub InUse : ℕ → ℕ → ℕ → ℕ → Type 0
 InUse sites count done k = (k < count) ⊎ ((sites ≤ k + done) × (k < sites))
 
--- Each place in use has the label of a site, and each site that has a label says where it is.
+-- Each place in use has the label of a site, and that site names the place. What the other places hold does not matter,
+-- nor what a site without a label names.
 pub record Linked {V : Type 0} (ws : List (Waiting V)) (sites : ℕ) (Used : ℕ → Type 0) : Type 0 where
-  -- a place in use has a label, and the site of that label names the place
   pub held : (k : ℕ) → Used k → (x : Label V) × ((label-at ws k ≡ Some x) × (x .site < sites) × (place-of ws (x .site) ≡ Some k))
-  -- a place that a site names is in use, and has the label of that site
-  pub found : (s i : ℕ) → s < sites → place-of ws s ≡ Some i → (x : Label V) × ((label-at ws i ≡ Some x) × (x .site ≡ s) × Used i)
-  -- no other place has a label
-  pub used : (k : ℕ) (x : Label V) → k < sites → label-at ws k ≡ Some x → Used k
 
 pub record Queued {V : Type 0} (a : Algebra V) (ws : List (Waiting V)) (sites count done : ℕ) : Type 0 where
   pub fits : sites ≤ length ws
@@ -77,11 +74,19 @@ pub record Spared {V : Type 0} (q q′ : State V) : Type 0 where
   pub size : length (q′ .places) ≡ length (q .places)
   pub beyond : drop (q .sites) (q′ .places) ≡ drop (q .sites) (q .places)
 
--- A site has no label, or one that waits, or one that is settled.
-pub data Known {V : Type 0} (q : State V) (s : ℕ) : Type 0 where
-  unknown : ((y : Label V) → Waits q y → y .site ≡ s → ⊥) → ((y : Label V) → Has (settled-of q) y → y .site ≡ s → ⊥) → Known q s
-  waiting : (x : Label V) → x .site ≡ s → Waits q x → ((y : Label V) → Waits q y → y .site ≡ s → y ≡ x) → ((y : Label V) → Has (settled-of q) y → y .site ≡ s → ⊥) → Known q s
-  done : (x : Label V) → x .site ≡ s → Has (settled-of q) x → ((y : Label V) → Waits q y → y .site ≡ s → ⊥) → ((y : Label V) → Has (settled-of q) y → y .site ≡ s → y ≡ x) → Known q s
+-- no label in use is of the site s
+abbrev pub Unlabelled : {V : Type 0} → List (Waiting V) → (ℕ → Type 0) → ℕ → Type 0
+Unlabelled {V} ws Used s = (k : ℕ) (y : Label V) → Used k → label-at ws k ≡ Some y → y .site ≡ s → ⊥
+
+-- the place that is named, if it is in use
+abbrev pub Named-used : ℕ → ℕ → ℕ → Option ℕ → Option ℕ → Type 0
+Named-used sites count done named None = (i : ℕ) → named ≡ Some i → InUse sites count done i → ⊥
+Named-used sites count done named (Some i) = (named ≡ Some i) × InUse sites count done i
+
+-- there is a label, and it is of the site s
+abbrev pub of-site : {V : Type 0} → ℕ → Option (Label V) → Bool
+of-site s None = false
+of-site s (Some x) = eqb (x .site) s
 
 -- ---- what its calls do
 

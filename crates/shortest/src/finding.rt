@@ -5,7 +5,6 @@ use crate::queue::Queue;
 use crate::search::search;
 use crate::waiting::Label;
 use crate::waiting::Waiting;
-use crate::waiting::blank_places;
 use network::Network;
 use weight::Weight;
 
@@ -23,7 +22,6 @@ pub fn search_from<N: Network>(
     if source >= sites || waiting.len() < sites as usize {
         return None;
     }
-    blank_places(waiting, sites);
     let mut queue = Queue {
         places: waiting,
         sites,

@@ -1,9 +1,8 @@
 // The queue of a search: labels wait in it by distance, and are settled one by one.
-ghost use Rattle.shortest.specs.Places.{place-of};
-ghost use Rattle.shortest.specs.Queues.{state, Sound, Spared, Farther, beats, Offering, SettledOne};
-ghost use Rattle.std.specs.declared.option.Option.the-variants.{None};
-ghost use Prim.Native.Nat.{_<_};
+ghost use Rattle.shortest.specs.Queues.{state, InUse, Sound, Spared, Unlabelled, Named-used, of-site, Farther, beats, Offering, SettledOne};
+ghost use Prim.Native.Nat.{_<_, _≤_};
 ghost use denote.Ref.{name};
+ghost use mathlib.Core.Bool.{true, false};
 ghost use mathlib.Core.Path.{_≡_};
 use crate::sifting::sift_down;
 use crate::sifting::sift_up;
@@ -34,12 +33,47 @@ fn nearer<W: Weight>(distance: W, label: Option<Label<W>>) -> bool
     }
 }
 
+// Whether the place is in use: its label waits, or is settled.
+fn in_use(at: u32, sites: u32, count: u32, settled: u32) -> bool
+    requires { ⌜ settled ≤ sites ⌝ }
+    ensures yes { λ r. ⌜ (r ≡ true → InUse sites count settled at) ⌝ }
+    ensures not { λ r. ⌜ (r ≡ false → InUse sites count settled at → ⊥) ⌝ }
+{
+    if at < count {
+        return true;
+    }
+    at < sites && at >= sites - settled
+}
+
+// The place, if one is named and it is in use.
+fn used(named: Option<u32>, sites: u32, count: u32, settled: u32) -> Option<u32>
+    requires { ⌜ settled ≤ sites ⌝ }
+    ensures { λ r. ⌜ Named-used sites count settled named r ⌝ }
+{
+    let at = named?;
+    if in_use(at, sites, count, settled) {
+        Some(at)
+    } else {
+        None
+    }
+}
+
+// Whether there is a label and it is of this site.
+fn is_of<W: Weight>(label: Option<Label<W>>, site: u32) -> bool
+    ensures { λ r. ⌜ r ≡ of-site site label ⌝ }
+{
+    match label {
+        Some(label) => label.site == site,
+        None => false,
+    }
+}
+
 impl<'a, W: Weight> Queue<'a, W> {
     // Puts in the label of a site that has none.
     fn enter(&mut self, label: Label<W>)
         requires sound { ⌜ Sound (W·Weight .algebra) (state (now self)) ⌝ }
         requires there { ⌜ label .site < now self .sites ⌝ }
-        requires new { ⌜ place-of (now (now self .places)) (label .site) ≡ None ⌝ }
+        requires new { ⌜ Unlabelled (now (now self .places)) (InUse (now self .sites) (now self .count) (now self .settled)) (label .site) ⌝ }
         ensures lender { λ _. ⌜ name (now (self .exit) .places) ≡ name (now (self .entry) .places) ⌝ }
         ensures offered { λ _. ⌜ Offering (W·Weight .algebra) (state (now (self .entry))) label (state (now (self .exit))) ⌝ }
     {
@@ -63,22 +97,28 @@ impl<'a, W: Weight> Queue<'a, W> {
     }
 
     // Puts the label in where its site has none, or in the place of one that waits at a larger distance; else nothing changes.
+    // The place that a site names counts only where it is in use and has a label of that site: so places need not be
+    // blank before a search.
     pub(crate) fn offer(&mut self, label: Label<W>)
         requires sound { ⌜ Sound (W·Weight .algebra) (state (now self)) ⌝ }
         requires there { ⌜ label .site < now self .sites ⌝ }
         ensures lender { λ _. ⌜ name (now (self .exit) .places) ≡ name (now (self .entry) .places) ⌝ }
         ensures offered { λ _. ⌜ Offering (W·Weight .algebra) (state (now (self .entry))) label (state (now (self .exit))) ⌝ }
     {
-        let at = self.places[label.site as usize].at;
-        let Some(at) = at else {
+        let named = self.places[label.site as usize].at;
+        let Some(at) = used(named, self.sites, self.count, self.settled) else {
             self.enter(label);
             return;
         };
+        let held = self.places[at as usize].label;
+        if !is_of(held, label.site) {
+            self.enter(label);
+            return;
+        }
         if at >= self.count {
             return;
         }
-        let found = self.places[at as usize].label;
-        if nearer(label.distance, found) {
+        if nearer(label.distance, held) {
             self.lower(at, label);
         }
     }
@@ -98,7 +138,8 @@ impl<'a, W: Weight> Queue<'a, W> {
         let end = self.sites - 1 - self.settled;
         let least = self.places[0].label;
         swap_labels(self.places, 0, last);
-        swap_labels(self.places, last, end);
+        write_label(self.places, end, least);
+        point(self.places, least, Some(end));
         self.count = last;
         self.settled += 1;
         sift_down(self.places, last);

@@ -1,9 +1,6 @@
 // The memory of a search, which its user lends.
 ghost use Rattle.shortest.specs.Places.{blank-place};
-ghost use Prim.Native.Nat.{_≤_};
-ghost use lib.ListN.{length, take, drop, replicate};
 ghost use mathlib.Core.Path.{_≡_};
-use network::lent::overwrite;
 
 // What is known of a site: its distance from the source, the site before it on a walk of that total, and the mark between.
 #[derive(Clone, Copy)]
@@ -23,7 +20,7 @@ pub struct Waiting<W> {
 }
 
 impl<W: Copy> Waiting<W> {
-    // A place before any search: to make the memory that is lent.
+    // A place before any search.
     pub fn blank() -> Waiting<W>
         ensures { λ r. ⌜ r ≡ blank-place ⌝ }
     {
@@ -32,13 +29,4 @@ impl<W: Copy> Waiting<W> {
             at: None,
         }
     }
-}
-
-// Makes the first so many places blank; the others stay as they were.
-pub(crate) fn blank_places<W: Copy>(places: &mut [Waiting<W>], sites: u32)
-    requires { ⌜ sites ≤ length (now places) ⌝ }
-    ensures blank { λ _. ⌜ take sites (now (places .exit)) ≡ replicate sites blank-place ⌝ }
-    ensures beyond { λ _. ⌜ drop sites (now (places .exit)) ≡ drop sites (now (places .entry)) ⌝ }
-{
-    overwrite(&mut places[0..sites as usize], Waiting::blank());
 }
