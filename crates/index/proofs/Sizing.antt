@@ -6,7 +6,7 @@ use Prim.Native.Nat.{ℕ, _+_, _*_, _<_, _≤_}
 use native.Mathlib.Nat.{mul-le-mul}
 use native.Mathlib.Omega.{arith}
 use lib.Dec.{ltb}
-use Rattle.std.proofs.shelf.Tests.{ltb-false, le-ltb, cond-true, cond-false, cases-bool}
+use Rattle.std.proofs.shelf.Tests.{ltb-false, cond-true, cases-bool}
 use Rattle.std.specs.declared.option.Option.{Option}
 use Rattle.std.specs.declared.option.Option.the-variants.{None, Some}
 use Rattle.std.specs.declared.result.Result.{Result}
@@ -101,11 +101,3 @@ module _ {V : Type 0} (b : BookState V) (sites hubs entries : ℕ) where
         rows = blanked (hubs * sites) blank-row (b .rows);
         entries = blanked entries (blank-entry k) (b .entries);
       })
-
-  -- sizes within their largest, over memory that holds them, have no fault
-  pub no-book-fault : Fitting → fault-in b sites hubs entries ≡ None
-  no-book-fault f =
-      let none : (m n : ℕ) (fault : IndexFault) → n ≤ m → cond (ltb m n) (Some fault) None ≡ None = λ m n fault le. cond-false (ltb m n) (Some fault) None (le-ltb m n le) in
-      or-none _ _ (none 4096 sites _ (f .within .0)) (or-none _ _ (none (length (b .site-places)) sites _ (f .held .0))
-      (or-none _ _ (none 64 hubs _ (f .within .1)) (or-none _ _ (none (length (b .hub-list)) hubs _ (f .held .1)) (or-none _ _ (none (length (b .rows)) (hubs * sites) _ (f .held .2))
-      (or-none _ _ (none 262144 entries _ (f .within .2)) (none (length (b .entries)) entries _ (f .held .3)))))))

@@ -19,7 +19,8 @@ use Rattle.shortest.specs.Finding.{Found}
 use Rattle.shortest.specs.Searches.{Searched, Searched-in, label-in-order, place-order, order-of}
 use Rattle.shortest.specs.declared.waiting.Label.{Label}
 use Rattle.shortest.specs.declared.waiting.Waiting.{Waiting}
-use Rattle.shortest.proofs.Settled.{settled-count, settled-at, settled-place, some-same}
+use Rattle.shortest.proofs.Links.{of-label}
+use Rattle.shortest.proofs.Settled.{settled-count, settled-at, settled-used}
 
 -- no place is in use at the start, so any memory will do
 pub empty-sound : {V : Type 0} (k : Algebra V) (ws : List (Waiting V)) (sites : ℕ) → sites ≤ length ws → Queued k ws sites 0 0
@@ -56,8 +57,8 @@ module _ {V : Type 0} (k : Algebra V) (g : Graph V) (source : ℕ) (cut : Option
         found = subst (λ m. Found k g source cut (settled-labels (q .places) m (q .settled))) (s .spared .sites ∙ as-many) (s .found);
         labels = labels;
         placed = λ i lt d.
-            let p = settled-place k (q .places) (g .sites) (q .count) (q .settled) sound i lt in
-            subst (λ x. place-of (q .places) (x .site) ≡ Some (g .sites - 1 - i)) (some-same (label-at (q .places) (g .sites - 1 - i)) (p .0) _ (p .1 .0) (labels i lt d)) (p .1 .2);
+            of-label (q .places) (g .sites) (InUse (g .sites) (q .count) (q .settled)) (sound .linked) (g .sites - 1 - i) _
+            (settled-used k (q .places) (g .sites) (q .count) (q .settled) sound i lt) (labels i lt d) .1;
       }
 
 -- ---- reading

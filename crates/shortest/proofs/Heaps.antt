@@ -63,10 +63,6 @@ module _ {V : Type 0} (a : Algebra V) where
     pub up-step : OrderedBut a us n (parent i)
     up-step = record { others = up-others; children = up-children }
 
-  -- nothing is over the label
-  pub at-top : (ws : List (Waiting V)) (n : ℕ) → OrderedBut a ws n 0 → Ordered a ws n
-  at-top ws n but k k0 kn = but .others k k0 kn (λ e. omega arith)
-
   -- the label is not before the one over it
   pub settled-up : (ws : List (Waiting V)) (n i : ℕ) → false ≡ earlier a (label-at ws i) (label-at ws (parent i)) → OrderedBut a ws n i → Ordered a ws n
   settled-up ws n i h but k k0 kn =
@@ -80,10 +76,6 @@ module _ {V : Type 0} (a : Algebra V) where
       carried _ _ (label-at ws k) (label-at ws i) refl (ap (label-at ws) e) (not-trans a (label-at ws k) (label-at ws c) (label-at ws i) (child .least k k0 kn e) (sym over)))
       (λ (ne : parent k ≡ i → ⊥). under .others k k0 kn ne)
       (cases-eq (parent k) i)
-
-  -- nothing is under i
-  pub bottom : (ws : List (Waiting V)) (n i : ℕ) → n / 2 ≤ i → OrderedUnder a ws n i → Ordered a ws n
-  bottom ws n i le under k k0 kn = under .others k k0 kn (λ e. omega arith)
 
   module _ (ws us : List (Waiting V)) (n i c : ℕ) (traded : Traded ws us i c)
       (lower : earlier a (label-at ws c) (label-at ws i) ≡ true) (child : LeastChild a ws n i c) (under : OrderedUnder a ws n i) where

@@ -14,6 +14,8 @@ use Rattle.shortest.specs.Places.{label-at, place-of}
 use Rattle.shortest.specs.Queues.{InUse, Linked, Queued, WaitsIn, listed, settled-labels}
 use Rattle.shortest.specs.declared.waiting.Label.{Label}
 use Rattle.shortest.specs.declared.waiting.Waiting.{Waiting}
+use Rattle.shortest.proofs.Edits.{some-inside}
+use Rattle.shortest.proofs.Links.{one-place}
 
 -- a member stands at some place
 pub mem-place : {X : Type 0} (x : X) (xs : List X) → List·Memᴰ x xs → (i : ℕ) × (i < length xs) × ((d : X) → getD xs i d ≡ x)
@@ -21,11 +23,8 @@ mem-place x [] m = absurd (List·Memᴰ·not-nil m)
 mem-place x (y ∷ ys) (List·Memᴰ·head e) = (0, omega arith, λ d. sym e)
 mem-place x (y ∷ ys) (List·Memᴰ·tail m) = let r = mem-place x ys m in (suc (r .0), omega (arith, r .1), r .2)
 
-pub some-same : {X : Type 0} (o : Option X) (x y : X) → o ≡ Some x → o ≡ Some y → x ≡ y
-some-same o x y p q = cc
-
 module _ {V : Type 0} (a : Algebra V) (ws : List (Waiting V)) (sites count done : ℕ) (q : Queued a ws sites count done) where
-  settled-used : (i : ℕ) → i < done → InUse sites count done (sites - 1 - i)
+  pub settled-used : (i : ℕ) → i < done → InUse sites count done (sites - 1 - i)
   settled-used i lt = inr (omega (arith, q .room), omega (arith, q .room))
 
   -- the label at the place of the i-th settled one
@@ -59,25 +58,16 @@ module _ {V : Type 0} (a : Algebra V) (ws : List (Waiting V)) (sites count done 
   pub settled-at : (i : ℕ) → i < done → (d : Label V) → label-at ws (sites - 1 - i) ≡ Some (getD (settled-labels ws sites done) i d)
   settled-at i lt d = labels-at done i (omega arith) lt d
 
-  -- a label in use says where it is
-  place-named : (k : ℕ) (x : Label V) → InUse sites count done k → label-at ws k ≡ Some x → place-of ws (x .site) ≡ Some k
-  place-named k x used e =
-      let h = q .linked .held k used in
-      subst (λ y. place-of ws (y .site) ≡ Some k) (some-same (label-at ws k) (h .0) x (h .1 .0) e) (h .1 .2)
-
-  same-place : (k m : ℕ) (x y : Label V) → InUse sites count done k → InUse sites count done m → label-at ws k ≡ Some x → label-at ws m ≡ Some y → x .site ≡ y .site → k ≡ m
-  same-place k m x y uk um ex ey e = some-same (place-of ws (x .site)) k m (place-named k x uk ex) (ap (place-of ws) e ∙ place-named m y um ey)
-
   pub settled-once : (i j : ℕ) (d : Label V) → i < j → j < length (settled-labels ws sites done) → getD (settled-labels ws sites done) i d .site ≡ getD (settled-labels ws sites done) j d .site → ⊥
   settled-once i j d lt inside e =
       let top : j < done = omega (arith, settled-count) in
       let same : sites - 1 - i ≡ sites - 1 - j =
-      same-place _ _ _ _ (settled-used i (omega arith)) (settled-used j top) (settled-at i (omega arith) d) (settled-at j top d) e in
+      one-place ws sites (InUse sites count done) (q .linked) _ _ _ _ (settled-used i (omega arith)) (settled-used j top) (settled-at i (omega arith) d) (settled-at j top d) e in
       omega (arith, q .room)
 
   -- one label for a site
   one-label : (k m : ℕ) (x y : Label V) → InUse sites count done k → InUse sites count done m → label-at ws k ≡ Some x → label-at ws m ≡ Some y → x .site ≡ y .site → x ≡ y
-  one-label k m x y uk um ex ey e = some-same (label-at ws k) x y ex (ap (label-at ws) (same-place k m x y uk um ex ey e) ∙ ey)
+  one-label k m x y uk um ex ey e = some-inside x y (sym ex ∙ ap (label-at ws) (one-place ws sites (InUse sites count done) (q .linked) k m x y uk um ex ey e) ∙ ey)
 
   settled-mem : (x : Label V) → List·Memᴰ x (settled-labels ws sites done) → (i : ℕ) × (i < done) × (label-at ws (sites - 1 - i) ≡ Some x)
   settled-mem x m =
