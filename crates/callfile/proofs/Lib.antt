@@ -1,3 +1,2 @@
 pub mod Offending
 pub mod Starting
-pub mod Building

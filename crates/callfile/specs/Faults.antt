@@ -1,7 +1,7 @@
 -- What each refusal of a record says: its number, its detail and its layer.
 -- An index's fault passes through whole.
 use Rattle.std.specs.Prelude.{ℕ}
-use Rattle.refusal.specs.Faults as index
+use Rattle.index.specs.Faults as index
 use Rattle.callfile.specs.declared.fault.ReaderFault.{ReaderFault}
 use Rattle.callfile.specs.declared.fault.ReaderFault.TheVariants.{Index, Partial, UnknownCall, NotZero}
 

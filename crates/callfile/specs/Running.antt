@@ -1,4 +1,4 @@
--- What a record does to an index of a register in the delay kind and its book, and to the waiting places that are lent to it.
+-- What a record does to an index of a register in the delay kind and its book.
 use Rattle.std.specs.Prelude.{◌≡◌, ℕ, List, Some, None, Ok, Err, Option, Result}
 use Rattle.weight.specs.Numbers.{delay}
 use Rattle.weight.specs.declared.delay.Delay.{Delay}
@@ -6,18 +6,15 @@ use Rattle.network.specs.Registers.{Meaning, graph, rule, renewed}
 use Rattle.network.specs.Sizes.{or_then, over}
 use Rattle.network.specs.declared.fault.NetworkFault.{NetworkFault}
 use Rattle.register.specs.Memories.{size_fault}
-use Rattle.shortest.specs.declared.waiting.Waiting.{Waiting}
 use Rattle.network.specs.declared.changes.RegisterChange.TheVariants as change
-use Rattle.index.specs.Asking.{Asked}
 use Rattle.index.specs.Books.{BookState, fault_in, fresh}
-use Rattle.index.specs.Building.{Built}
 use Rattle.index.specs.Calls.{Ruling, refuse, grant, Follows, Changed, Named, Unnamed}
-use Rattle.refusal.specs.declared.fault.IndexFault.{IndexFault}
-use Rattle.refusal.specs.declared.fault.IndexFault.TheVariants.{Network}
+use Rattle.index.specs.declared.fault.IndexFault.{IndexFault}
+use Rattle.index.specs.declared.fault.IndexFault.TheVariants.{Network}
 use Rattle.callfile.specs.Lines.{line_of}
 use Rattle.callfile.specs.Records.{reading}
 use Rattle.callfile.specs.declared.call.Call.{Call}
-use Rattle.callfile.specs.declared.call.Call.TheVariants.{New, Link, Strike, Reweigh, Name, Unname, Build, Figure}
+use Rattle.callfile.specs.declared.call.Call.TheVariants.{New, Link, Strike, Reweigh, Name, Unname}
 use Rattle.callfile.specs.declared.fault.ReaderFault.{ReaderFault}
 use Rattle.callfile.specs.declared.fault.ReaderFault.TheVariants.{Index}
 use Rattle.callfile.specs.declared.line.Answer.{Answer}
@@ -49,21 +46,14 @@ answered (Err fault) = Err fault
 abbrev pub By : (Result ℕ IndexFault → Type 0) → Result Answer IndexFault → Type 0
 By Allowed r = (n : Result ℕ IndexFault) × Allowed n × (r ≡ answered n)
 
--- what a figure gives: its value and its manner
-abbrev pub told : Result (Delay × ℕ) IndexFault → Result Answer IndexFault
-told (Ok f) = Ok (record { value = f.0.micros; second = f.1 })
-told (Err fault) = Err fault
-
--- what each call may answer, and what it leaves: the network, the book, and the waiting places, which only a build writes
-abbrev pub Ran : Call → Meaning Delay → BookState Delay → List (Waiting Delay) → Result Answer IndexFault → Meaning Delay → BookState Delay → List (Waiting Delay) → Type 0
-Ran (New sites) m b ws r m' b' ws' = By (λ n. Follows (starting (start_fault sites m b) sites m b) (m, b) n (m', b')) r × (ws' ≡ ws)
-Ran (Link one other weight) m b ws r m' b' ws' = By (λ n. Changed delay graph (rule delay) (change.Link one other weight) m b n m' b') r × (ws' ≡ ws)
-Ran (Strike number) m b ws r m' b' ws' = By (λ n. Changed delay graph (rule delay) (change.Strike number) m b n m' b') r × (ws' ≡ ws)
-Ran (Reweigh number weight) m b ws r m' b' ws' = By (λ n. Changed delay graph (rule delay) (change.Reweigh number weight) m b n m' b') r × (ws' ≡ ws)
-Ran (Name site) m b ws r m' b' ws' = By (λ n. Named delay m.sites site b n b') r × (m' ≡ m) × (ws' ≡ ws)
-Ran (Unname site) m b ws r m' b' ws' = By (λ n. Unnamed delay m.sites site b n b') r × (m' ≡ m) × (ws' ≡ ws)
-Ran Build m b ws r m' b' ws' = By (λ n. Built delay (graph m) ws b n ws' b') r × (m' ≡ m)
-Ran (Figure s t) m b ws r m' b' ws' = ((f : Result (Delay × ℕ) IndexFault) × Asked delay (graph m) b s t f × (r ≡ told f)) × (m' ≡ m) × (b' ≡ b) × (ws' ≡ ws)
+-- what each call may answer, and what it leaves
+abbrev pub Ran : Call → Meaning Delay → BookState Delay → Result Answer IndexFault → Meaning Delay → BookState Delay → Type 0
+Ran (New sites) m b r m' b' = By (λ n. Follows (starting (start_fault sites m b) sites m b) (m, b) n (m', b')) r
+Ran (Link one other weight) m b r m' b' = By (λ n. Changed delay graph (rule delay) (change.Link one other weight) m b n m' b') r
+Ran (Strike number) m b r m' b' = By (λ n. Changed delay graph (rule delay) (change.Strike number) m b n m' b') r
+Ran (Reweigh number weight) m b r m' b' = By (λ n. Changed delay graph (rule delay) (change.Reweigh number weight) m b n m' b') r
+Ran (Name site) m b r m' b' = By (λ n. Named delay m.sites site b n b') r × (m' ≡ m)
+Ran (Unname site) m b r m' b' = By (λ n. Unnamed delay m.sites site b n b') r × (m' ≡ m)
 
 -- ---- a record
 
@@ -72,14 +62,14 @@ abbrev pub raised : Result Answer IndexFault → Result Answer ReaderFault
 raised (Ok answer) = Ok answer
 raised (Err fault) = Err (Index fault)
 
--- A record that is no call is refused and leaves everything; any other is run.
-abbrev pub ReadAs : Result Call ReaderFault → Meaning Delay → BookState Delay → List (Waiting Delay) → Result Answer ReaderFault → Meaning Delay → BookState Delay → List (Waiting Delay) → Type 0
-ReadAs (Err fault) m b ws r m' b' ws' = (r ≡ Err fault) × (m' ≡ m) × (b' ≡ b) × (ws' ≡ ws)
-ReadAs (Ok call) m b ws r m' b' ws' = (a : Result Answer IndexFault) × Ran call m b ws a m' b' ws' × (r ≡ raised a)
+-- A record that is no call is refused and leaves the index; any other is run.
+abbrev pub ReadAs : Result Call ReaderFault → Meaning Delay → BookState Delay → Result Answer ReaderFault → Meaning Delay → BookState Delay → Type 0
+ReadAs (Err fault) m b r m' b' = (r ≡ Err fault) × (m' ≡ m) × (b' ≡ b)
+ReadAs (Ok call) m b r m' b' = (a : Result Answer IndexFault) × Ran call m b a m' b' × (r ≡ raised a)
 
-abbrev pub Read : List ℕ → Meaning Delay → BookState Delay → List (Waiting Delay) → Result Answer ReaderFault → Meaning Delay → BookState Delay → List (Waiting Delay) → Type 0
-Read bytes m b ws r m' b' ws' = ReadAs (reading bytes) m b ws r m' b' ws'
+abbrev pub Read : List ℕ → Meaning Delay → BookState Delay → Result Answer ReaderFault → Meaning Delay → BookState Delay → Type 0
+Read bytes m b r m' b' = ReadAs (reading bytes) m b r m' b'
 
 -- Its line tells the answer or the refusal.
-abbrev pub Told : ℕ → List ℕ → Meaning Delay → BookState Delay → List (Waiting Delay) → Line → Meaning Delay → BookState Delay → List (Waiting Delay) → Type 0
-Told n bytes m b ws line m' b' ws' = (r : Result Answer ReaderFault) × Read bytes m b ws r m' b' ws' × (line ≡ line_of n r)
+abbrev pub Told : ℕ → List ℕ → Meaning Delay → BookState Delay → Line → Meaning Delay → BookState Delay → Type 0
+Told n bytes m b line m' b' = (r : Result Answer ReaderFault) × Read bytes m b r m' b' × (line ≡ line_of n r)

@@ -13,8 +13,4 @@ pub enum Call {
     Name(u32),
     // Takes the name of a hub from a site.
     Unname(u32),
-    // Fills the book.
-    Build,
-    // The figure of two sites.
-    Figure(u32, u32),
 }

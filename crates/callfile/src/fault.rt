@@ -2,7 +2,7 @@ ghost use Rattle.callfile.specs.Faults.{number, detail, layer};
 ghost use Rattle.callfile.specs.declared.fault.ReaderFault.TheVariants.{Index};
 ghost use Rattle.std.specs.Prelude.{◌≡◌};
 
-use refusal::fault::IndexFault;
+use index::fault::IndexFault;
 
 // Why a record is refused.
 #[derive(Clone, Copy, Debug)]

@@ -19,14 +19,12 @@ fn word(bytes: &[u8; 16], at: usize) -> u32
 
 // How many numbers the call with this byte takes.
 fn numbers(call: u8) -> u32
-    requires { call ≤ 7 }
+    requires { call ≤ 5 }
     ensures { result ≡ numbers call }
 {
     match call {
         1 => 3,
         3 => 2,
-        6 => 0,
-        7 => 2,
         _ => 1,
     }
 }
@@ -57,7 +55,7 @@ pub fn read_call(bytes: &[u8; 16]) -> Result<Call, ReaderFault>
     ensures { result ≡ reading bytes.now }
 {
     let call = bytes[0];
-    if call > 7 {
+    if call > 5 {
         return Err(ReaderFault::UnknownCall(call));
     }
     if let Some(place) = offending(bytes, numbers(call)) {
@@ -72,8 +70,6 @@ pub fn read_call(bytes: &[u8; 16]) -> Result<Call, ReaderFault>
         2 => Call::Strike(a),
         3 => Call::Reweigh(a, b),
         4 => Call::Name(a),
-        5 => Call::Unname(a),
-        6 => Call::Build,
-        _ => Call::Figure(a, b),
+        _ => Call::Unname(a),
     })
 }

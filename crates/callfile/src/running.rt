@@ -1,5 +1,5 @@
 // Records run on an index of a register in the delay kind and its book.
-ghost use Rattle.callfile.specs.Running.{Ran, Read, Told, start_fault, starting, answered, told};
+ghost use Rattle.callfile.specs.Running.{Ran, Read, Told, start_fault, starting, answered};
 ghost use Rattle.index.specs.Books.{state};
 ghost use Rattle.index.specs.Calls.{Follows};
 ghost use Rattle.register.specs.Memories.{register_meaning};
@@ -10,12 +10,11 @@ use crate::fault::ReaderFault;
 use crate::line::{Answer, Line};
 use crate::reading::read_call;
 use index::book::Book;
-use index::calls::{build, change, figure, name, unname};
+use index::calls::{change, name, unname};
+use index::fault::IndexFault;
 use network::changes::RegisterChange;
 use network::sizes::check_size;
-use refusal::fault::IndexFault;
 use register::Register;
-use shortest::waiting::Waiting;
 use weight::delay::Delay;
 
 // The sizes of the indexes that a call file makes; sites are at most so many.
@@ -53,70 +52,54 @@ fn answered(res: Result<u32, IndexFault>) -> Result<Answer, IndexFault>
     })
 }
 
-// What a figure gives: its value, and its manner as the second one.
-fn told(res: Result<(Delay, u32), IndexFault>) -> Result<Answer, IndexFault>
-    ensures { result ≡ told res }
-{
-    let (value, manner) = res?;
-    Ok(Answer {
-        value: value.micros,
-        second: manner,
-    })
-}
-
-// Runs one call. The waiting places are lent to a build.
+// Runs one call.
 pub fn run<'a>(
     register: &mut Register<'a, Delay>,
     book: &mut Book<'a, Delay>,
-    waiting: &mut [Waiting<Delay>],
     call: Call,
 ) -> Result<Answer, IndexFault>
-    ensures { Ran call (register_meaning register.old) (state book.old) waiting.old result (register_meaning register.new) (state book.new) waiting.new }
+    ensures { Ran call (register_meaning register.old) (state book.old) result (register_meaning register.new) (state book.new) }
 {
-    match call {
-        Call::New(sites) => answered(start(register, book, sites)),
-        Call::Link(one, other, weight) => answered(change(
+    answered(match call {
+        Call::New(sites) => start(register, book, sites),
+        Call::Link(one, other, weight) => change(
             register,
             book,
             RegisterChange::Link(one, other, weight),
-        )),
-        Call::Strike(number) => answered(change(register, book, RegisterChange::Strike(number))),
-        Call::Reweigh(number, weight) => answered(change(
+        ),
+        Call::Strike(number) => change(register, book, RegisterChange::Strike(number)),
+        Call::Reweigh(number, weight) => change(
             register,
             book,
             RegisterChange::Reweigh(number, weight),
-        )),
-        Call::Name(site) => answered(name(register, book, site)),
-        Call::Unname(site) => answered(unname(register, book, site)),
-        Call::Build => answered(build(register, book, waiting)),
-        Call::Figure(s, t) => told(figure(register, book, s, t)),
-    }
+        ),
+        Call::Name(site) => name(register, book, site),
+        Call::Unname(site) => unname(register, book, site),
+    })
 }
 
 // Runs the call that a record is.
 fn run_bytes<'a>(
     register: &mut Register<'a, Delay>,
     book: &mut Book<'a, Delay>,
-    waiting: &mut [Waiting<Delay>],
     bytes: &[u8; 16],
 ) -> Result<Answer, ReaderFault>
-    ensures { Read bytes.now (register_meaning register.old) (state book.old) waiting.old result (register_meaning register.new) (state book.new) waiting.new }
+    ensures { Read bytes.now (register_meaning register.old) (state book.old) result (register_meaning register.new) (state book.new) }
 {
     let call = read_call(bytes)?;
-    Ok(run(register, book, waiting, call)?)
+    Ok(run(register, book, call)?)
 }
 
 // Runs one record, and answers the line that it prints.
 pub fn run_record<'a>(
     register: &mut Register<'a, Delay>,
     book: &mut Book<'a, Delay>,
-    waiting: &mut [Waiting<Delay>],
     number: u64,
     bytes: &[u8; 16],
 ) -> Line
-    ensures { Told number bytes.now (register_meaning register.old) (state book.old) waiting.old result (register_meaning register.new) (state book.new) waiting.new }
+    ensures { Told number bytes.now (register_meaning register.old) (state book.old) result (register_meaning register.new) (state book.new) }
 {
-    match run_bytes(register, book, waiting, bytes) {
+    match run_bytes(register, book, bytes) {
         Ok(answer) => Line::Granted(number, answer),
         Err(fault) => Line::Refused(number, fault),
     }

@@ -1,13 +1,14 @@
 // The program: runs a call file from standard input, and prints one line for each record.
+#![tactic(auto)]
+
 ghost use Rattle.std.specs.Prelude.{◌≤◌, length, IfOk};
 
 use callfile::line::closing_line;
 use callfile::running::{ENTRY_PLACES, HUB_PLACES, LINK_PLACES, run_record};
-use filling::places::{Entry, RowPlace, SitePlace};
 use index::book::Book;
+use index::book::tables::{Entry, RowPlace, SitePlace};
 use register::Register;
 use register::memory::{LinkRecord, SiteChain};
-use shortest::waiting::Waiting;
 use std::io;
 use std::io::{BufReader, BufWriter, Read, Write};
 use weight::delay::Delay;
@@ -34,7 +35,6 @@ fn main(rt: HostRuntime) -> io::Result<()> {
     let mut hub_list = [None; 8];
     let mut rows = [RowPlace::<Delay>::blank(); 2048];
     let mut entries = [Entry::<Delay>::blank(); 2048];
-    let mut waiting = [Waiting::<Delay>::blank(); 256];
     let mut register = Register::new(0, LINK_PLACES, &mut chains, &mut records);
     let mut book = Book::new(
         0,
@@ -56,7 +56,7 @@ fn main(rt: HostRuntime) -> io::Result<()> {
             }
             break;
         }
-        let line = run_record(&mut register, &mut book, &mut waiting, number, &record);
+        let line = run_record(&mut register, &mut book, number, &record);
         writeln!(out, "{line}")?;
     }
     out.flush()

@@ -7,8 +7,8 @@ use Rattle.network.specs.Sizes.{checked}
 use Rattle.index.specs.Asking.{no_site, not_built, Told, AskedWell, Asked, granted}
 use Rattle.index.specs.Books.{BookState}
 use Rattle.index.specs.Calls.{differ}
-use Rattle.refusal.specs.declared.fault.IndexFault.{IndexFault}
-use Rattle.refusal.specs.declared.fault.IndexFault.TheVariants.{NoSuchSite, NotBuilt}
+use Rattle.index.specs.declared.fault.IndexFault.{IndexFault}
+use Rattle.index.specs.declared.fault.IndexFault.TheVariants.{NoSuchSite, NotBuilt}
 use Rattle.index.proofs.Ruling.{agree_test}
 
 -- a test that would give a fault

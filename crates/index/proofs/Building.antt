@@ -17,8 +17,8 @@ use Rattle.index.specs.Building.{tables_of, RestKept, Built, differing, waiting_
 use Rattle.index.specs.Calls.{differ}
 use Rattle.index.specs.Keeping.{Kept}
 use Rattle.index.specs.declared.book.tables.Tables.{Tables}
-use Rattle.refusal.specs.declared.fault.IndexFault.{IndexFault}
-use Rattle.refusal.specs.declared.fault.IndexFault.TheVariants.{TooShort, NoRoom}
+use Rattle.index.specs.declared.fault.IndexFault.{IndexFault}
+use Rattle.index.specs.declared.fault.IndexFault.TheVariants.{TooShort, NoRoom}
 use Rattle.index.proofs.Blanking.{emptied_is}
 use Rattle.index.proofs.Lending.{Held}
 use Rattle.index.proofs.Ruling.{differ_test, agree_test}

@@ -8,8 +8,8 @@ use Rattle.index.specs.Calls.{Ruling, refuse, grant, Follows, at_site, naming, u
 use Rattle.index.specs.Hubs.{listing, has, insert, without, rank, ordered, moved_up, moved_down}
 use Rattle.index.specs.Keeping.{Kept}
 use Rattle.index.specs.declared.book.tables.Tables.{Tables}
-use Rattle.refusal.specs.declared.fault.IndexFault.{IndexFault}
-use Rattle.refusal.specs.declared.fault.IndexFault.TheVariants.{NoSuchSite, HubAlready, HubsFull, NoHub}
+use Rattle.index.specs.declared.fault.IndexFault.{IndexFault}
+use Rattle.index.specs.declared.fault.IndexFault.TheVariants.{NoSuchSite, HubAlready, HubsFull, NoHub}
 use Rattle.index.proofs.Listing.{Climbs, length-insert, climbs_insert, rank_most, rank_below, climbs_without}
 use Rattle.index.proofs.Naming.{room_kept, hubs_kept, order_kept, climbs, hubs_few, named_is, unnamed_is, length_without}
 use Rattle.index.proofs.Ruling.{first_ruling, second_ruling}

@@ -7,9 +7,9 @@ use Rattle.network.specs.declared.fault.NetworkFault.{NetworkFault}
 use Rattle.weight.specs.Algebra.{Algebra}
 use Rattle.index.specs.Books.{BookState, unbuilt}
 use Rattle.index.specs.Calls.{Ruling, refuse, Follows, differ, where_agreed, with_book}
-use Rattle.refusal.specs.declared.fault.IndexFault.TheVariants.{Network, SitesDiffer}
+use Rattle.index.specs.declared.fault.IndexFault.TheVariants.{Network, SitesDiffer}
 use Rattle.index.specs.Hubs.{has, rank, sought}
-use Rattle.refusal.specs.declared.fault.IndexFault.{IndexFault}
+use Rattle.index.specs.declared.fault.IndexFault.{IndexFault}
 
 module _ {X : Type 0} (b : Bool) (x y : Ruling X) (before after : X) (r : Result ℕ IndexFault) where
   pub first_ruling : b ≡ true → Follows x before r after → Follows (cond b x y) before r after

@@ -5,8 +5,8 @@ use Rattle.network.specs.Sizes.{or_then, checked}
 use Rattle.weight.specs.Algebra.{Algebra}
 use Rattle.filling.specs.Places.{blank_site, blank_row, blank_entry, blanked}
 use Rattle.index.specs.Books.{BookState, fault_in, by_fault, fresh, emptied, Renewed}
-use Rattle.refusal.specs.declared.fault.IndexFault.{IndexFault}
-use Rattle.refusal.specs.declared.fault.IndexFault.TheVariants.{TooLarge, TooShort}
+use Rattle.index.specs.declared.fault.IndexFault.{IndexFault}
+use Rattle.index.specs.declared.fault.IndexFault.TheVariants.{TooLarge, TooShort}
 
 -- where a test that gives a fault passed, its cause does not hold
 pub passed : {F : Type 0} (m n : ℕ) (fault : F) → Ok tt ≡ checked (cond (ltb m n) (Some fault) None) → n ≤ m

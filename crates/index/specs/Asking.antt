@@ -7,8 +7,8 @@ use Rattle.oracle.specs.Rule.{Figure}
 use Rattle.query.specs.Figures.{Right}
 use Rattle.index.specs.Books.{BookState, hubs_of}
 use Rattle.index.specs.Building.{Standing}
-use Rattle.refusal.specs.declared.fault.IndexFault.{IndexFault}
-use Rattle.refusal.specs.declared.fault.IndexFault.TheVariants.{NoSuchSite, SitesDiffer, NotBuilt, Unjoined}
+use Rattle.index.specs.declared.fault.IndexFault.{IndexFault}
+use Rattle.index.specs.declared.fault.IndexFault.TheVariants.{NoSuchSite, SitesDiffer, NotBuilt, Unjoined}
 
 -- the fault of a site that does not exist
 abbrev pub no_site : ℕ → ℕ → Option IndexFault

@@ -10,7 +10,7 @@ use Rattle.index.specs.Hubs.{listing}
 use Rattle.index.specs.Sizes.{over, short}
 use Rattle.index.specs.declared.book.Book.{Book}
 use Rattle.index.specs.declared.book.tables.Tables.{Tables}
-use Rattle.refusal.specs.declared.fault.IndexFault.{IndexFault}
+use Rattle.index.specs.declared.fault.IndexFault.{IndexFault}
 
 pub record BookState (V : Type 0) : Type 0 where
   pub sites : ℕ

@@ -9,8 +9,8 @@ use Rattle.filling.specs.Rows.{Spared}
 use Rattle.filling.specs.Standing.{TablesStand, LacksRoom}
 use Rattle.filling.specs.Tables.{Memory, memory}
 use Rattle.index.specs.Books.{BookState, hubs_of, emptied}
-use Rattle.refusal.specs.declared.fault.IndexFault.{IndexFault}
-use Rattle.refusal.specs.declared.fault.IndexFault.TheVariants.{TooShort, SitesDiffer, NoRoom}
+use Rattle.index.specs.declared.fault.IndexFault.{IndexFault}
+use Rattle.index.specs.declared.fault.IndexFault.TheVariants.{TooShort, SitesDiffer, NoRoom}
 
 -- A build of the graph g stands in the book and has n entries: its tables are those of g with the hubs named now.
 pub record Standing {V : Type 0} (k : Algebra V) (g : Graph V) (n : ℕ) (b : BookState V) : Type 0 where

@@ -5,8 +5,8 @@ use Rattle.network.specs.Graph.{Graph}
 use Rattle.weight.specs.Algebra.{Algebra}
 use Rattle.index.specs.Books.{BookState, hubs_of, with_hubs, unbuilt}
 use Rattle.index.specs.Hubs.{has, insert, without}
-use Rattle.refusal.specs.declared.fault.IndexFault.{IndexFault}
-use Rattle.refusal.specs.declared.fault.IndexFault.TheVariants.{Network, NoSuchSite, HubAlready, HubsFull, NoHub, SitesDiffer}
+use Rattle.index.specs.declared.fault.IndexFault.{IndexFault}
+use Rattle.index.specs.declared.fault.IndexFault.TheVariants.{Network, NoSuchSite, HubAlready, HubsFull, NoHub, SitesDiffer}
 
 -- What the rules say of a call: refused, with the fault that says why; or granted, with the answer and what follows.
 pub data Ruling (X : Type 0) : Type 0 where

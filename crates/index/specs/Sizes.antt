@@ -1,7 +1,7 @@
 -- Checks of the book's sizes and of the memory lent for them.
 use Rattle.std.specs.Prelude.{ℕ, cond, Some, None, Option, nat_lt}
-use Rattle.refusal.specs.declared.fault.IndexFault.{IndexFault}
-use Rattle.refusal.specs.declared.fault.IndexFault.TheVariants.{TooLarge, TooShort}
+use Rattle.index.specs.declared.fault.IndexFault.{IndexFault}
+use Rattle.index.specs.declared.fault.IndexFault.TheVariants.{TooLarge, TooShort}
 
 -- the fault of a size, where it is over its largest
 abbrev pub over : ℕ → ℕ → Option IndexFault

@@ -9,8 +9,8 @@ ghost use Rattle.std.specs.Prelude.{◌≡◌, false, is_ok};
 use crate::book::Book;
 use crate::book::asking::ask;
 use crate::book::building::build_book;
+use crate::fault::IndexFault;
 use network::Network;
-use refusal::fault::IndexFault;
 use shortest::waiting::Waiting;
 
 // Refuses a book that differs from the network in sites.

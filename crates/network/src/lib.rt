@@ -1,4 +1,6 @@
 // Networks: sites, and links between them that can be asked for one by one and changed.
+#![tactic(auto)]
+
 ghost use Rattle.network.specs.Graph.{Graph};
 ghost use Rattle.network.specs.Links.{first, after};
 ghost use Rattle.network.specs.Rulings.{Ruling, Follows, Lawful};

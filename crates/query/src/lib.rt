@@ -1,4 +1,6 @@
 // Figures from the tables of a standing build.
+#![tactic(auto)]
+
 pub mod figure;
 pub mod hubs;
 pub mod lookup;

@@ -1,4 +1,6 @@
 // The register: a network whose links are entered one by one, over memory that its user lends.
+#![tactic(auto)]
+
 ghost use Rattle.register.specs.Chains.{Sized, Inside, Firsts, Lasts, Ones, Others, records_of};
 ghost use Rattle.std.specs.Prelude.{ℕ, ◌<◌};
 

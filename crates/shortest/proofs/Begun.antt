@@ -5,17 +5,13 @@ use Rattle.std.proofs.lemmas.Bool.{cond-true, lt-ltb}
 use Rattle.weight.specs.Algebra.{Algebra}
 use Rattle.network.specs.Graph.{Graph}
 use Rattle.shortest.specs.Places.{blank_place, label_at, place_of}
-use Rattle.shortest.specs.Queues.{State, InUse, Queued, Unlabelled, settled_labels}
+use Rattle.shortest.specs.Queues.{State, InUse, Queued, settled_labels}
 use Rattle.shortest.specs.Finding.{Found}
 use Rattle.shortest.specs.Searches.{Searched, SearchedIn, label_in_order, place_order, order_of}
 use Rattle.shortest.specs.declared.waiting.Label.{Label}
 use Rattle.shortest.specs.declared.waiting.Waiting.{Waiting}
 use Rattle.shortest.proofs.Links.{of_label}
 use Rattle.shortest.proofs.Settled.{settled_count, settled_at, settled_used}
-
--- where no place is in use, no site has a label
-pub none_labelled : {V : Type 0} (ws : List (Waiting V)) (sites count done s : ℕ) → count ≡ 0 → done ≡ 0 → Unlabelled ws (InUse sites count done) s
-none_labelled ws sites count done s none nothing k y used is same = ⊎_elim (λ (lt : k < count). omega arith) (λ (p : (sites ≤ k + done) × (k < sites)). omega (arith, p.0, p.1)) used
 
 -- no place is in use at the start, so any memory will do
 pub empty_sound : {V : Type 0} (k : Algebra V) (ws : List (Waiting V)) (sites : ℕ) → sites ≤ length ws → Queued k ws sites 0 0

@@ -64,7 +64,7 @@ fn is_of<W: Weight>(label: Option<Label<W>>, site: u32) -> bool
 
 impl<'a, W: Weight> Queue<'a, W> {
     // Puts in the label of a site that has none.
-    pub(crate) fn enter(&mut self, label: Label<W>)
+    fn enter(&mut self, label: Label<W>)
         requires sound { Sound W.Weight.algebra (state self.old) }
         requires there { label.site < self.old.sites }
         requires new { Unlabelled self.old.places.now (InUse self.old.sites self.old.count self.old.settled) label.site }
@@ -73,7 +73,7 @@ impl<'a, W: Weight> Queue<'a, W> {
     {
         let at = self.count;
         write_label(self.places, at, Some(label));
-        point(self.places, Some(label), at);
+        point(self.places, Some(label), Some(at));
         self.count = at + 1;
         sift_up(self.places, at);
     }
@@ -133,7 +133,7 @@ impl<'a, W: Weight> Queue<'a, W> {
         let least = self.places[0].label;
         swap_labels(self.places, 0, last);
         write_label(self.places, end, least);
-        point(self.places, least, end);
+        point(self.places, least, Some(end));
         self.count = last;
         self.settled += 1;
         sift_down(self.places, last);

@@ -34,19 +34,6 @@ fn offer_below<'a, W: Weight>(queue: &mut Queue<'a, W>, label: Label<W>, cut: Op
     }
 }
 
-// Puts the first label into an empty queue where its distance is below the limit.
-fn enter_below<'a, W: Weight>(queue: &mut Queue<'a, W>, label: Label<W>, cut: Option<W>)
-    requires sound { Sound W.Weight.algebra (state queue.old) }
-    requires empty { (queue.old.count ≡ 0) × (queue.old.settled ≡ 0) }
-    requires there { label.site < queue.old.sites }
-    ensures lender { queue.new.places.ghost_name ≡ queue.old.places.ghost_name }
-    ensures offered { OfferedBelow W.Weight.algebra cut (state queue.old) label (state queue.new) }
-{
-    if is_below(label.distance, cut) {
-        queue.enter(label);
-    }
-}
-
 // Looks at one link at the site of a settled label: the label that it leads to is offered.
 fn relax_link<'a, W: Weight>(
     queue: &mut Queue<'a, W>,
@@ -111,7 +98,7 @@ pub(crate) fn search<'a, N: Network>(
         before: source,
         mark: 0,
     };
-    enter_below(queue, start, cut);
+    offer_below(queue, start, cut);
     while let Some(label) = queue.settle() {
         relax(network, queue, label, cut);
     }

@@ -42,12 +42,12 @@ pub(crate) fn write_label<W: Copy>(places: &mut [Waiting<W>], at: u32, label: Op
 }
 
 // Writes where the label of its site is; nothing where there is no label.
-pub(crate) fn point<W: Copy>(places: &mut [Waiting<W>], label: Option<Label<W>>, at: u32)
+pub(crate) fn point<W: Copy>(places: &mut [Waiting<W>], label: Option<Label<W>>, at: Option<u32>)
     requires { (x : Label W) → label ≡ Some x → x.site < length places.old }
-    ensures { places.new ≡ pointed label (Some at) places.old }
+    ensures { places.new ≡ pointed label at places.old }
 {
     if let Some(label) = label {
-        places[label.site as usize].at = Some(at);
+        places[label.site as usize].at = at;
     }
 }
 
@@ -62,6 +62,6 @@ pub(crate) fn swap_labels<W: Copy>(places: &mut [Waiting<W>], i: u32, j: u32)
     let other = places[j as usize].label;
     write_label(places, i, other);
     write_label(places, j, one);
-    point(places, other, i);
-    point(places, one, j);
+    point(places, other, Some(i));
+    point(places, one, Some(j));
 }

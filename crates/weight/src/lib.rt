@@ -1,4 +1,6 @@
 // Kinds of weight: what a link costs, how costs compare and how they add up.
+#![tactic(auto)]
+
 ghost use Rattle.weight.specs.Algebra.{Algebra};
 ghost use Rattle.weight.specs.Numbers.{delay, micros_of, repair};
 ghost use Rattle.std.specs.Prelude.{◌≡◌, ℕ, ◌-◌, ◌^◌, min};

@@ -7,9 +7,9 @@ ghost use Rattle.std.specs.Prelude.{◌≡◌, ◌<◌};
 
 use super::Book;
 use super::tables::Tables;
+use crate::fault::IndexFault;
 use network::Network;
 use query::figure::figure;
-use refusal::fault::IndexFault;
 use weight::Weight;
 
 impl<'a, W: Weight> Book<'a, W> {

@@ -7,9 +7,9 @@ ghost use Rattle.std.specs.Prelude.{◌≡◌, ◌≤◌, length};
 
 use super::Book;
 use super::tables::Tables;
+use crate::fault::IndexFault;
 use filling::tables::{Unfilled, fill};
 use network::Network;
-use refusal::fault::IndexFault;
 use shortest::waiting::Waiting;
 use std::mem::replace;
 use weight::Weight;

@@ -4,7 +4,7 @@ ghost use Rattle.index.specs.Calls.{Follows, at_site, naming, unnaming};
 ghost use Rattle.std.specs.Prelude.{◌≡◌};
 
 use super::Book;
-use refusal::fault::IndexFault;
+use crate::fault::IndexFault;
 use weight::Weight;
 
 impl<'a, W: Weight> Book<'a, W> {

@@ -7,10 +7,10 @@ ghost use Rattle.std.specs.Prelude.{◌≡◌, ◌*◌, ◌≤◌, false, length
 
 use super::Book;
 use super::tables::Tables;
+use crate::fault::IndexFault;
 use filling::places::{Entry, RowPlace, SitePlace};
 use filling::tables::{MOST_ENTRIES, MOST_HUBS, MOST_SITES};
 use network::lent::overwrite;
-use refusal::fault::IndexFault;
 use weight::Weight;
 
 // Refuses a size that is over its largest.

@@ -7,7 +7,7 @@ ghost use Rattle.std.specs.Prelude.{◌≡◌};
 
 use super::hubs::{find, put, take_out};
 use super::tables::Tables;
-use refusal::fault::IndexFault;
+use crate::fault::IndexFault;
 use weight::Weight;
 
 impl<'a, W: Weight> Tables<'a, W> {

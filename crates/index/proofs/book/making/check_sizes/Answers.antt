@@ -1,4 +1,4 @@
-use Rattle.refusal.specs.declared.fault.IndexFault.TheVariants.{TooLarge}
+use Rattle.index.specs.declared.fault.IndexFault.TheVariants.{TooLarge}
 use Rattle.index.proofs.Sizing.{passed, rows_few}
 use Rattle.index.proofs.book.making.check_sizes.Goals as goal
 

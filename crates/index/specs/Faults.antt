@@ -2,8 +2,8 @@
 -- A network's fault passes through whole.
 use Rattle.std.specs.Prelude.{ℕ}
 use Rattle.network.specs.Faults as network
-use Rattle.refusal.specs.declared.fault.IndexFault.{IndexFault}
-use Rattle.refusal.specs.declared.fault.IndexFault.TheVariants.{Network, TooLarge, TooShort, NoSuchSite, HubAlready, HubsFull, NoHub, SitesDiffer, NotBuilt, NoRoom, Unjoined}
+use Rattle.index.specs.declared.fault.IndexFault.{IndexFault}
+use Rattle.index.specs.declared.fault.IndexFault.TheVariants.{Network, TooLarge, TooShort, NoSuchSite, HubAlready, HubsFull, NoHub, SitesDiffer, NotBuilt, NoRoom, Unjoined}
 
 abbrev pub number : IndexFault → ℕ
 number (Network fault) = network.number fault

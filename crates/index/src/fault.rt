@@ -1,5 +1,5 @@
-ghost use Rattle.refusal.specs.Faults.{number, detail, layer};
-ghost use Rattle.refusal.specs.declared.fault.IndexFault.TheVariants.{Network};
+ghost use Rattle.index.specs.Faults.{number, detail, layer};
+ghost use Rattle.index.specs.declared.fault.IndexFault.TheVariants.{Network};
 ghost use Rattle.std.specs.Prelude.{◌≡◌};
 
 use network::fault::NetworkFault;
