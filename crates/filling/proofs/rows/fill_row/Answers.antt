@@ -3,18 +3,18 @@ use lib.ListN.{length-replicate}
 use Rattle.filling.specs.Places.{blank_row}
 use Rattle.filling.proofs.Hubs.{labels_within, row_searched, row_left}
 use Rattle.filling.proofs.rows.fill_row.Goals as goal
-use Rattle.filling.proofs.rows.fill_row.Goals.{in-Some, in-default}
+use Rattle.filling.proofs.rows.fill_row.Goals.{in-Some, in_default}
 
-pub write-row-requires : goal.write-row-requires
-write-row-requires g c =
+pub write_row-requires : goal.write_row-requires
+write_row-requires g c =
     let graph = g.N.Network.graph (g.N.Network.means c.args.network.now) in
-    labels_within g.W.Weight.algebra graph c.args.hub _ c.args.waiting.now c.in-Some.found c.search-from.new.waiting c.in-Some.ensures c.sites.result _
+    labels_within g.W.Weight.algebra graph c.args.hub _ c.args.waiting.now c.in-Some.found c.search_from.new.waiting c.in-Some.ensures c.sites.result _
     c.sites.ensures (ap length c.requires.row ∙ length-replicate graph.sites blank_row)
 
-pub note-row-requires : goal.note-row-requires
-note-row-requires g c =
+pub note_row-requires : goal.note_row-requires
+note_row-requires g c =
     let graph = g.N.Network.graph (g.N.Network.means c.args.network.now) in
-    c.match-search-from.auto.row ∙ ap length c.requires.row ∙ length-replicate graph.sites blank_row ∙ sym c.requires.places
+    c.match-search_from.auto.row ∙ ap length c.requires.row ∙ length-replicate graph.sites blank_row ∙ sym c.requires.places
 
 pub returns : goal.returns
 returns g c =
@@ -22,11 +22,11 @@ returns g c =
     let net = c.args.network.now in
     let graph = g.N.Network.graph (g.N.Network.means net) in
     let shows = g.N.Network.lawful.sound (g.N.Network.means net) (g.N.Network.lawful.valid net) in
-    elim c.match-search-from.branch [
+    elim c.match-search_from.branch [
       | in-Some w ↦
-          row_searched k graph shows c.args.hub c.args.row.now c.match-search-from.row c.args.site_places.now c.note-row.new.site_places c.args.waiting.now c.search-from.new.waiting
-          c.requires.row c.requires.places w.in-Some.found w.sites.result w.in-Some.ensures w.sites.ensures w.write-row.new.row w.row-is w.write-row.ensures c.note-row.ensures
-      | in-default w ↦
-          row_left k graph shows c.args.hub c.args.row.now c.match-search-from.row c.args.site_places.now c.note-row.new.site_places c.args.waiting.now c.search-from.new.waiting
-          c.requires.row c.requires.places c.requires.room w.in-default.ensures w.row-is c.note-row.ensures
+          row_searched k graph shows c.args.hub c.args.row.now c.match-search_from.row c.args.site_places.now c.note_row.new.site_places c.args.waiting.now c.search_from.new.waiting
+          c.requires.row c.requires.places w.in-Some.found w.sites.result w.in-Some.ensures w.sites.ensures w.write_row.new.row w.row-is w.write_row.ensures c.note_row.ensures
+      | in_default w ↦
+          row_left k graph shows c.args.hub c.args.row.now c.match-search_from.row c.args.site_places.now c.note_row.new.site_places c.args.waiting.now c.search_from.new.waiting
+          c.requires.row c.requires.places c.requires.room w.in_default.ensures w.row-is c.note_row.ensures
     ]

@@ -3,7 +3,7 @@ use Rattle.shortest.specs.Queues.{settled_labels}
 use Rattle.filling.specs.Rows.{rowed}
 use Rattle.filling.proofs.Rowed.{label_there, rowed_more}
 use Rattle.filling.proofs.rows.write_row.Goals as goal
-use Rattle.filling.proofs.rows.write_row.Goals.{in-Some, in-default}
+use Rattle.filling.proofs.rows.write_row.Goals.{in-Some, in_default}
 
 pub bounds-row-label : goal.bounds-row-label
 bounds-row-label g c =
@@ -12,16 +12,16 @@ bounds-row-label g c =
     (label_there c.args.waiting.now c.args.sites c.loop-order.order (omega (arith, c.requires.0)) _ c.in-Some.ensures) in
     omega (arith, c.loop-order.auto.row)
 
-pub offset-bounds-row-label : goal.offset-bounds-row-label
-offset-bounds-row-label g c =
+pub offset_bounds-row-label : goal.offset_bounds-row-label
+offset_bounds-row-label g c =
     let below : c.in-Some.label.site < length c.args.row.now = omega (arith, bounds-row-label g c, c.loop-order.auto.row) in
     search rules
 
 pub loop-order-preserved : goal.loop-order-preserved
 loop-order-preserved g c =
-    elim c.match-settled-label.branch [
+    elim c.match-settled_label.branch [
       | in-Some w ↦ w.row-is ∙ rowed_more c.args.waiting.now c.args.sites c.loop-order.order (omega (arith, c.requires.0)) _ w.in-Some.ensures c.args.row.now c.loop-order.row c.loop-order.invariant
-      | in-default w ↦ w.row-is ∙ rowed_more c.args.waiting.now c.args.sites c.loop-order.order (omega (arith, c.requires.0)) _ w.in-default.ensures c.args.row.now c.loop-order.row c.loop-order.invariant
+      | in_default w ↦ w.row-is ∙ rowed_more c.args.waiting.now c.args.sites c.loop-order.order (omega (arith, c.requires.0)) _ w.in_default.ensures c.args.row.now c.loop-order.row c.loop-order.invariant
     ]
 
 pub returns : goal.returns

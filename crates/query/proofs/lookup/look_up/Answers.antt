@@ -13,8 +13,8 @@ bounds-ball-place g c =
 pub bounds-ball-place-else-place-eq0 : goal.bounds-ball-place-else-place-eq0
 bounds-ball-place-else-place-eq0 g c = bounds-ball-place g c
 
-pub offset-bounds-ball-place : goal.offset-bounds-ball-place
-offset-bounds-ball-place g c = omega (arith, bounds-ball-place g c)
+pub offset_bounds-ball-place : goal.offset_bounds-ball-place
+offset_bounds-ball-place g c = omega (arith, bounds-ball-place g c)
 
 pub returns : goal.returns
 returns g c =

@@ -9,8 +9,8 @@ loop-entry-init g c = no_site g.W.Weight.algebra (g.N.Network.graph (g.N.Network
 
 pub loop-entry-preserved : goal.loop-entry-preserved
 loop-entry-preserved g c =
-    one_site g.W.Weight.algebra (g.N.Network.graph (g.N.Network.means c.args.network.now)) c.args.ball.now c.args.other.now c.loop-entry.entry-index c.entry-item.result (so_far c.loop-entry.best) (so_far c.meet-site-best.result)
-    c.loop-entry-test.true c.entry-item.is c.loop-entry.invariant c.meet-site-best.ensures
+    one_site g.W.Weight.algebra (g.N.Network.graph (g.N.Network.means c.args.network.now)) c.args.ball.now c.args.other.now c.loop-entry.entry-index c.entry-item.result (so_far c.loop-entry.best) (so_far c.meet_site-best.result)
+    c.loop-entry-test.true c.entry-item.is c.loop-entry.invariant c.meet_site-best.ensures
 
 pub returns-then-best-eq0 : goal.returns-then-best-eq0
 returns-then-best-eq0 g c =

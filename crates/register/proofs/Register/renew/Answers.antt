@@ -2,7 +2,7 @@ use Rattle.register.proofs.Register.renew.Goals as goal
 use Rattle.register.proofs.Same.{kept_of}
 use Rattle.register.proofs.Starts.{renewed_kept}
 
-pub invariant-of-self : goal.invariant-of-self
-invariant-of-self g c =
+pub invariant_of-self : goal.invariant_of-self
+invariant_of-self g c =
     let k = renewed_kept c.args.sites c.args.places c.args.self.now.memory c.renew.new.self c.renew.ensures.1 (kept_of c.args.self.now) in
     (k.sized, (k.inside, (k.firsts, (k.lasts, (k.ones, (k.others, tt))))))

@@ -5,8 +5,8 @@ use Rattle.register.proofs.telling.standing_from.Goals as goal
 pub loop-at-init : goal.loop-at-init
 loop-at-init g c = set_out c.args.records.now c.args.site c.args.start c.requires.started
 
-pub offset-bounds-records-number : goal.offset-bounds-records-number
-offset-bounds-records-number g c = omega (arith, below c.args.records.now c.args.site c.args.start c.loop-at.at c.in-Some.number c.in-Some.is c.loop-at.invariant)
+pub offset_bounds-records-number : goal.offset_bounds-records-number
+offset_bounds-records-number g c = omega (arith, below c.args.records.now c.args.site c.args.start c.loop-at.at c.in-Some.number c.in-Some.is c.loop-at.invariant)
 
 pub bounds-records-number : goal.bounds-records-number
 bounds-records-number g c = below c.args.records.now c.args.site c.args.start c.loop-at.at c.in-Some.number c.in-Some.is c.loop-at.invariant
@@ -20,12 +20,12 @@ returns-then-link g c = λ j e.
 pub loop-at-smaller : goal.loop-at-smaller
 loop-at-smaller g c =
     falls c.args.records.now c.args.site c.args.start c.loop-at.at c.in-Some.number c.in-Some.is c.loop-at.invariant
-    c.index-records-number.result c.index-records-number.is c.requires.chained.0 c.requires.chained.1 c.next-at-at.result c.next-at-at.ensures
+    c.index-records-number.result c.index-records-number.is c.requires.chained.0 c.requires.chained.1 c.next_at-at.result c.next_at-at.ensures
 
 pub loop-at-preserved : goal.loop-at-preserved
 loop-at-preserved g c =
     walked_on c.args.records.now c.args.site c.args.start c.loop-at.at c.in-Some.number c.in-Some.is c.loop-at.invariant
-    c.index-records-number.result c.index-records-number.is c.requires.chained.0 c.requires.chained.1 c.next-at-at.result c.next-at-at.ensures c.if-link.false
+    c.index-records-number.result c.index-records-number.is c.requires.chained.0 c.requires.chained.1 c.next_at-at.result c.next_at-at.ensures c.if-link.false
 
 pub returns : goal.returns
-returns g c = come_to_end c.args.records.now c.args.site c.args.start c.loop-at.at c.in-default.is c.loop-at.invariant
+returns g c = come_to_end c.args.records.now c.args.site c.args.start c.loop-at.at c.in_default.is c.loop-at.invariant

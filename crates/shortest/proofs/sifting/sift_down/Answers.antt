@@ -7,22 +7,22 @@ use Rattle.shortest.proofs.sifting.sift_down.Goals as goal
 pub loop-i-init : goal.loop-i-init
 loop-i-init g c = (c.requires.inside, c.requires.near, stay)
 
-pub comes-before-requires : goal.comes-before-requires
-comes-before-requires g c = (omega (arith, c.least-child-child.ensures.inside), omega arith)
+pub comes_before-requires : goal.comes_before-requires
+comes_before-requires g c = (omega (arith, c.least_child-child.ensures.inside), omega arith)
 
-pub returns-then-not-comes-before : goal.returns-then-not-comes-before
-returns-then-not-comes-before g c =
+pub returns-then-not-comes_before : goal.returns-then-not-comes_before
+returns-then-not-comes_before g c =
     let inv = c.loop-i.invariant in
     record {
       ordered =
-          sunk g.W.Weight.algebra c.loop-i.places c.args.count c.loop-i.i c.least-child-child.result c.if-not-comes-before.ensures c.least-child-child.ensures inv.1;
+          sunk g.W.Weight.algebra c.loop-i.places c.args.count c.loop-i.i c.least_child-child.result c.if-not-comes_before.ensures c.least_child-child.ensures inv.1;
       moves = inv.2;
     }
 
-pub swap-labels-requires : goal.swap-labels-requires
-swap-labels-requires g c =
+pub swap_labels-requires : goal.swap_labels-requires
+swap_labels-requires g c =
     let inv = c.loop-i.invariant in
-    let child = c.least-child-child.ensures in
+    let child = c.least_child-child.ensures in
     record {
       within = (omega arith, omega (arith, child.inside));
       one = λ x e. inv.0 _ x (omega arith) e;
@@ -32,5 +32,5 @@ swap-labels-requires g c =
 pub loop-i-preserved : goal.loop-i-preserved
 loop-i-preserved g c =
     let inv = c.loop-i.invariant in
-    down_turn g.W.Weight.algebra c.args.places.now c.loop-i.places c.swap-labels.new.places c.args.count c.loop-i.i c.least-child-child.result (omega arith)
-    (inv.0, inv.1, inv.2) c.least-child-child.ensures c.if-not-comes-before.ensures c.swap-labels.ensures
+    down_turn g.W.Weight.algebra c.args.places.now c.loop-i.places c.swap_labels.new.places c.args.count c.loop-i.i c.least_child-child.result (omega arith)
+    (inv.0, inv.1, inv.2) c.least_child-child.ensures c.if-not-comes_before.ensures c.swap_labels.ensures

@@ -7,19 +7,19 @@ use Rattle.shortest.proofs.sifting.sift_up.Goals as goal
 pub loop-i-init : goal.loop-i-init
 loop-i-init g c = (omega arith, c.requires.inside, (λ n lt b. b), stay)
 
-pub comes-before-requires : goal.comes-before-requires
-comes-before-requires g c = (omega (arith, c.loop-i.invariant.0), omega (arith, c.loop-i.invariant.0))
+pub comes_before-requires : goal.comes_before-requires
+comes_before-requires g c = (omega (arith, c.loop-i.invariant.0), omega (arith, c.loop-i.invariant.0))
 
-pub returns-then-not-comes-before : goal.returns-then-not-comes-before
-returns-then-not-comes-before g c =
+pub returns-then-not-comes_before : goal.returns-then-not-comes_before
+returns-then-not-comes_before g c =
     let inv = c.loop-i.invariant in
     record {
-      ordered = λ n lt b. settled_up g.W.Weight.algebra c.loop-i.places n c.loop-i.i c.if-not-comes-before.ensures (inv.2 n lt b);
+      ordered = λ n lt b. settled_up g.W.Weight.algebra c.loop-i.places n c.loop-i.i c.if-not-comes_before.ensures (inv.2 n lt b);
       moves = inv.3;
     }
 
-pub swap-labels-requires : goal.swap-labels-requires
-swap-labels-requires g c =
+pub swap_labels-requires : goal.swap_labels-requires
+swap_labels-requires g c =
     let inv = c.loop-i.invariant in
     record {
       within = (omega (arith, inv.0), omega (arith, inv.0));
@@ -30,6 +30,6 @@ swap-labels-requires g c =
 pub loop-i-preserved : goal.loop-i-preserved
 loop-i-preserved g c =
     let inv = c.loop-i.invariant in
-    let turn = up_turn g.W.Weight.algebra c.args.places.now c.loop-i.places c.swap-labels.new.places c.args.at c.loop-i.i (omega arith) inv.0 (omega arith) inv.1 inv.2 inv.3
-    c.if-not-comes-before.ensures c.swap-labels.ensures in
+    let turn = up_turn g.W.Weight.algebra c.args.places.now c.loop-i.places c.swap_labels.new.places c.args.at c.loop-i.i (omega arith) inv.0 (omega arith) inv.1 inv.2 inv.3
+    c.if-not-comes_before.ensures c.swap_labels.ensures in
     (omega (arith, inv.0), turn.0, turn.1, turn.2)

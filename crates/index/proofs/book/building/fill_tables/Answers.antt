@@ -7,9 +7,9 @@ pub returns : goal.returns
 returns g c =
     let t = c.args.tables.now in
     let old = tables_state t in
-    let b = over_memory old c.replace-site-places.result.now c.replace-hub-list.result.now c.replace-rows.result.now c.replace-entries.result.now in
+    let b = over_memory old c.replace-site_places.result.now c.replace-hub_list.result.now c.replace-rows.result.now c.replace-entries.result.now in
     let same : b ≡ old = λ i.
-    over_memory old (c.replace-site-places.ensures.value i).now (c.replace-hub-list.ensures.value i).now (c.replace-rows.ensures.value i).now (c.replace-entries.ensures.value i).now in
+    over_memory old (c.replace-site_places.ensures.value i).now (c.replace-hub_list.ensures.value i).now (c.replace-rows.ensures.value i).now (c.replace-entries.ensures.value i).now in
     let held : Held b = subst (λ o. Held o) (sym same) c.requires.kept.held in
     let rest = taken_rest_kept b held _ _ _ c.fill-filled.auto.site_places c.fill-filled.auto.rows c.fill-filled.auto.entries old same in
     record {

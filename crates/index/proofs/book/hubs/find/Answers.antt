@@ -7,8 +7,8 @@ loop-at-init c = passed_none _ _ c.requires
 pub loop-at-preserved : goal.loop-at-preserved
 loop-at-preserved c = passed_more _ _ _ c.loop-at.invariant c.in-Some.hub c.loop-at-test.true c.in-Some.is c.if-hub-site.false c.if-hub-site-2.false
 
-pub returns-in-default : goal.returns-in-default
-returns-in-default c = blank_there _ _ _ c.loop-at.invariant c.loop-at-test.true c.in-default.is
+pub returns-in_default : goal.returns-in_default
+returns-in_default c = blank_there _ _ _ c.loop-at.invariant c.loop-at-test.true c.in_default.is
 
 pub returns-then-hub-site : goal.returns-then-hub-site
 returns-then-hub-site c = found_there _ _ _ c.loop-at.invariant c.in-Some.hub c.loop-at-test.true c.in-Some.is c.if-hub-site.true

@@ -2,4 +2,4 @@ use Rattle.index.proofs.Moving.{moved_down_is}
 use Rattle.index.proofs.book.hubs.take_out.Goals as goal
 
 pub returns : goal.returns
-returns c = moved_down_is c.args.hub_list.now c.args.hubs c.args.at _ c.requires.within.0 c.requires.within.1 _ c.rotate-left.ensures.after
+returns c = moved_down_is c.args.hub_list.now c.args.hubs c.args.at _ c.requires.within.0 c.requires.within.1 _ c.rotate_left.ensures.after

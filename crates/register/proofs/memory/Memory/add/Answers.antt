@@ -4,8 +4,8 @@ use Rattle.register.proofs.Sites.{Appended}
 use Rattle.register.proofs.memory.Memory.add.Goals as goal
 use Rattle.register.proofs.memory.Memory.add.Goals.{then-other-one, else-other-one}
 
-pub offset-bounds-self-number : goal.offset-bounds-self-number
-offset-bounds-self-number g c =
+pub offset_bounds-self-number : goal.offset_bounds-self-number
+offset_bounds-self-number g c =
     let m = c.args.self.now in
     let s = c.requires.kept.sized in
     let lt : m.used < length m.records.now = omega (arith, c.requires.room) in

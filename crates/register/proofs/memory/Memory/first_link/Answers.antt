@@ -10,12 +10,12 @@ returns-then-site-self g c =
     let m = c.args.self.now in
     sym (ap first (told_nowhere m c.requires c.args.site _ (sub-zero m.used) c.if-site-self.true))
 
-pub standing-from-requires : goal.standing-from-requires
-standing-from-requires g c =
+pub standing_from-requires : goal.standing_from-requires
+standing_from-requires g c =
     let m = c.args.self.now in
     record { chained = chained m c.requires c.args.site _ (sub-zero m.used); started = (0, begins m c.requires c.args.site _ (sub-zero m.used) no_chain c.if-site-self.false) }
 
 pub returns : goal.returns
 returns g c =
     let m = c.args.self.now in
-    told_first m c.requires c.args.site _ (sub-zero m.used) c.standing-from.result (c.standing-from.ensures 0 (begins m c.requires c.args.site _ (sub-zero m.used) no_chain c.if-site-self.false))
+    told_first m c.requires c.args.site _ (sub-zero m.used) c.standing_from.result (c.standing_from.ensures 0 (begins m c.requires c.args.site _ (sub-zero m.used) no_chain c.if-site-self.false))

@@ -23,7 +23,7 @@ returns g c =
     let m = c.args.self.now in
     record {
       obeys = link_follows g.W.Weight.algebra (meaning m) c.args.one c.args.other c.args.weight c.if-one-self.false c.if-other-self.false c.if-weight-gt-HEAVIEST.false
-          m.used c.of-number.result (meaning c.add.new.self) (given_count m c.requires) c.if-self.false c.of-number.ensures c.add.ensures.means;
+          m.used c.of_number.result (meaning c.add.new.self) (given_count m c.requires) c.if-self.false c.of_number.ensures c.add.ensures.means;
       kept = c.add.ensures.kept;
       spared = c.add.ensures.spared;
       left = λ e. absurd (both_ways true e refl);

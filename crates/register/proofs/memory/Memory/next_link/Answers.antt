@@ -22,8 +22,8 @@ returns-then-not-link g c =
       | then-not-link-via-else-not-link+then-link-site-2 w ↦ told_apart m c.requires c.args.site _ (sub-zero m.used) c.args.mark r c.if-mark-self.false c.index-records-mark.is w.if-link-site-2.true
     ]
 
-pub standing-from-requires : goal.standing-from-requires
-standing-from-requires g c =
+pub standing_from-requires : goal.standing_from-requires
+standing_from-requires g c =
     let m = c.args.self.now in
     let r = c.index-records-mark.result in
     record {
@@ -35,5 +35,5 @@ pub returns : goal.returns
 returns g c =
     let m = c.args.self.now in
     let r = c.index-records-mark.result in
-    told_next m c.requires c.args.site _ (sub-zero m.used) c.args.mark r c.if-mark-self.false c.index-records-mark.is c.if-link-site-2.either c.standing-from.result c.if-not-link.false
-    (c.standing-from.ensures (suc c.args.mark) (goes_on m c.requires c.args.site _ (sub-zero m.used) c.args.mark r c.if-mark-self.false c.index-records-mark.is c.if-link-site-2.either _ c.next_at.ensures))
+    told_next m c.requires c.args.site _ (sub-zero m.used) c.args.mark r c.if-mark-self.false c.index-records-mark.is c.if-link-site-2.either c.standing_from.result c.if-not-link.false
+    (c.standing_from.ensures (suc c.args.mark) (goes_on m c.requires c.args.site _ (sub-zero m.used) c.args.mark r c.if-mark-self.false c.index-records-mark.is c.if-link-site-2.either _ c.next_at.ensures))

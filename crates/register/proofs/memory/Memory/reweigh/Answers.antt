@@ -5,8 +5,8 @@ use Rattle.register.proofs.Altering.{standing_inside, standing_below, reweighed_
 use Rattle.register.proofs.memory.Memory.reweigh.Goals as goal
 use Rattle.register.specs.Memories.{meaning, blank_record}
 
-pub reweigh-at-requires : goal.reweigh-at-requires
-reweigh-at-requires g c = standing_inside c.args.self.now c.requires c.args.number (sym c.if-not-stands.ensures)
+pub reweigh_at-requires : goal.reweigh_at-requires
+reweigh_at-requires g c = standing_inside c.args.self.now c.requires c.args.number (sym c.if-not-stands.ensures)
 
 pub returns : goal.returns
 returns g c =
@@ -14,9 +14,9 @@ returns g c =
     let n = c.args.number in
     let h = sym c.if-not-stands.ensures in
     let blank = blank_record g.W.Weight.algebra in
-    let all = reweighed_kept m c.requires n (standing_below m c.requires n h) blank _ c.of-number.result (c.reweigh-at.ensures blank) in
+    let all = reweighed_kept m c.requires n (standing_below m c.requires n h) blank _ c.of_number.result (c.reweigh_at.ensures blank) in
     record {
-      obeys = reweigh_follows g.W.Weight.algebra (meaning m) n c.args.weight c.of-number.result _ h c.if-weight-gt-HEAVIEST.false c.of-number.ensures all.means;
+      obeys = reweigh_follows g.W.Weight.algebra (meaning m) n c.args.weight c.of_number.result _ h c.if-weight-gt-HEAVIEST.false c.of_number.ensures all.means;
       kept = all.kept;
       spared = all.spared;
       left = λ e. absurd (both_ways true e refl);

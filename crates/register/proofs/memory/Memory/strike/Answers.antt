@@ -5,8 +5,8 @@ use Rattle.register.proofs.Altering.{standing_inside, standing_below, struck_kep
 use Rattle.register.proofs.memory.Memory.strike.Goals as goal
 use Rattle.register.specs.Memories.{meaning, blank_record}
 
-pub strike-at-requires : goal.strike-at-requires
-strike-at-requires g c = standing_inside c.args.self.now c.requires c.args.number (sym c.if-not-stands.ensures)
+pub strike_at-requires : goal.strike_at-requires
+strike_at-requires g c = standing_inside c.args.self.now c.requires c.args.number (sym c.if-not-stands.ensures)
 
 pub returns : goal.returns
 returns g c =
@@ -14,7 +14,7 @@ returns g c =
     let n = c.args.number in
     let h = sym c.if-not-stands.ensures in
     let blank = blank_record g.W.Weight.algebra in
-    let all = struck_kept m c.requires n (standing_below m c.requires n h) blank _ (c.strike-at.ensures blank) in
+    let all = struck_kept m c.requires n (standing_below m c.requires n h) blank _ (c.strike_at.ensures blank) in
     record {
       obeys = strike_follows g.W.Weight.algebra (meaning m) n _ h all.means;
       kept = all.kept;

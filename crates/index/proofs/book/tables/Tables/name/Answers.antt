@@ -8,9 +8,9 @@ pub returns-then-site-self : goal.returns-then-site-self
 returns-then-site-self g c =
     record { follows = no_site c.args.self.now c.requires g.W.Weight.algebra c.args.site _ c.if-site-self.true; kept = c.requires }
 
-pub returns-in-default : goal.returns-in-default
-returns-in-default g c =
-    let found = sought_there c.args.site (hubs_of (tables_state c.args.self.now)) c.in-default.field-0 c.in-default.ensures in
+pub returns-in_default : goal.returns-in_default
+returns-in_default g c =
+    let found = sought_there c.args.site (hubs_of (tables_state c.args.self.now)) c.in_default.field-0 c.in_default.ensures in
     record { follows = named_already c.args.self.now c.requires g.W.Weight.algebra c.args.site c.if-site-self.false found.0; kept = c.requires }
 
 pub returns-then-hubs-self : goal.returns-then-hubs-self
