@@ -1,5 +1,5 @@
 -- A register's memory after a link was struck or given another weight.
-use Rattle.std.proofs.Common.{◌≡◌, ℕ, zero, suc, ◌<◌, ◌≤◌, Bool, true, false, List, [], ◌∷◌, map, length, get_or, take, drop, set, sym, refl, ap, ◌∙◌, subst, le_of_suc-le-suc, not-suc-le-zero, arith, get_or-take, Bor}
+use Rattle.std.proofs.Common.{◌≡◌, ℕ, zero, suc, ◌<◌, ◌≤◌, Bool, true, false, List, [], ◌∷◌, map, length, get_or, take, drop, set, sym, refl, ap, ◌∙◌, subst, le_of_suc-le-suc, not-suc-le-zero, arith, get_or-take, MutBor}
 use Rattle.std.proofs.lemmas.List.{drop-map}
 use Rattle.std.proofs.lemmas.Bool.{both_ways}
 use Rattle.register.specs.Chains.{struck_record, reweighed_record, Kept, Spared, Inside, Firsts, Lasts, Ones, Others, records_of, ends_of, first_from, last_from, code}
@@ -67,7 +67,7 @@ module _ {V : Type 0} (f : LinkRecord V → LinkRecord V) (mild : Mild f) (i : �
 -- ---- the whole memory
 
 -- the memory with other records
-abbrev pub rewritten : {V : Type 0} → Memory V → Bor (List (LinkRecord V)) → Memory V
+abbrev pub rewritten : {V : Type 0} → Memory V → MutBor (List (LinkRecord V)) → Memory V
 rewritten m rs = record { sites = m.sites; places = m.places; used = m.used; chains = m.chains; records = rs }
 
 pub record Altered {V : Type 0} (m : Memory V) (xs : List (Given V)) (m' : Memory V) : Type 0 where
@@ -76,7 +76,7 @@ pub record Altered {V : Type 0} (m : Memory V) (xs : List (Given V)) (m' : Memor
   pub spared : Spared m m'
 
 module _ {V : Type 0} (f : LinkRecord V → LinkRecord V) (mild : Mild f) (h : Given V → Given V) (same : (r : LinkRecord V) → given_of (f r) ≡ h (given_of r))
-    (m : Memory V) (kept : Kept m) (n : ℕ) (lt : n < m.used) (rs : Bor (List (LinkRecord V))) (written : rs.now ≡ altered f n m.records.now) where
+    (m : Memory V) (kept : Kept m) (n : ℕ) (lt : n < m.used) (rs : MutBor (List (LinkRecord V))) (written : rs.now ≡ altered f n m.records.now) where
   front : take m.used rs.now ≡ altered f n (records_of m)
   front = ap (take m.used) written ∙ take-altered f m.used n m.records.now
 
@@ -102,7 +102,7 @@ module _ {V : Type 0} (f : LinkRecord V → LinkRecord V) (mild : Mild f) (h : G
 
 -- ---- the two alterations
 
-module _ {V : Type 0} (m : Memory V) (kept : Kept m) (n : ℕ) (lt : n < m.used) (d : LinkRecord V) (rs : Bor (List (LinkRecord V))) where
+module _ {V : Type 0} (m : Memory V) (kept : Kept m) (n : ℕ) (lt : n < m.used) (d : LinkRecord V) (rs : MutBor (List (LinkRecord V))) where
   pub struck_kept : rs.now ≡ set m.records.now n (struck_record (get_or m.records.now n d)) → Altered m (altered struck n (meaning m).given) (rewritten m rs)
   struck_kept e =
       let s = kept.sized in

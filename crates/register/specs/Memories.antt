@@ -1,6 +1,6 @@
 -- The memory of a register, what it means, and how it is made.
 use Rattle.std.specs.Prelude.{◌≡◌, ℕ, Bool, true, false, cond, List, [], ◌∷◌, ◌++◌, map, length, take, drop, replicate, Some, None, Option, Result}
-use Rattle.std.specs.Borrow.{Bor}
+use Rattle.std.specs.Borrow.{MutBor}
 use Rattle.weight.specs.Algebra.{Algebra}
 use Rattle.network.specs.Registers.{Given, Meaning}
 use Rattle.network.specs.Sizes.{over, short, or_then, checked}
@@ -47,7 +47,7 @@ abbrev pub fault_in : {V : Type 0} → Memory V → ℕ → ℕ → Option Netwo
 fault_in m sites places = size_fault sites (length m.chains.now) places (length m.records.now)
 
 -- memory before a register is made of it: a register with no sites
-abbrev pub lent : {V : Type 0} → Bor (List SiteChain) → Bor (List (LinkRecord V)) → Memory V
+abbrev pub lent : {V : Type 0} → MutBor (List SiteChain) → MutBor (List (LinkRecord V)) → Memory V
 lent chains records = record { sites = 0; places = 0; used = 0; chains = chains; records = records }
 
 -- What comes of sizes and memory: where there is a fault, all is as it was; else a register of these sizes,
