@@ -8,7 +8,7 @@ use Rattle.filling.proofs.rows.fill_row.Goals.{in-Some, in_default}
 pub write_row-requires : goal.write_row-requires
 write_row-requires g c =
     let graph = g.N.Network.graph (g.N.Network.means c.args.network.now) in
-    labels_within g.W.Weight.algebra graph c.args.hub _ c.args.waiting.now c.in-Some.found c.search_from.new.waiting c.in-Some.ensures c.sites.result _
+    labels_within g.N.W.Weight.algebra graph c.args.hub _ c.args.waiting.now c.in-Some.found c.search_from.new.waiting c.in-Some.ensures c.sites.result _
     c.sites.ensures (ap length c.requires.row ∙ length-replicate graph.sites blank_row)
 
 pub note_row-requires : goal.note_row-requires
@@ -18,7 +18,7 @@ note_row-requires g c =
 
 pub returns : goal.returns
 returns g c =
-    let k = g.W.Weight.algebra in
+    let k = g.N.W.Weight.algebra in
     let net = c.args.network.now in
     let graph = g.N.Network.graph (g.N.Network.means net) in
     let shows = g.N.Network.lawful.sound (g.N.Network.means net) (g.N.Network.lawful.valid net) in

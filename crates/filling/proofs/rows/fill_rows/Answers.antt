@@ -8,12 +8,12 @@ use Rattle.filling.proofs.rows.fill_rows.Goals as goal
 
 pub loop-at-init : goal.loop-at-init
 loop-at-init g c =
-    no_rows g.W.Weight.algebra (g.N.Network.graph (g.N.Network.means c.args.network.now)) c.args.hub_list.now c.args.site_places.now c.args.rows.now c.args.waiting.now c.requires.places
+    no_rows g.N.W.Weight.algebra (g.N.Network.graph (g.N.Network.means c.args.network.now)) c.args.hub_list.now c.args.site_places.now c.args.rows.now c.args.waiting.now c.requires.places
 
 pub slice_bounds-fill_row-end : goal.slice_bounds-fill_row-end
 slice_bounds-fill_row-end g c =
     let graph = g.N.Network.graph (g.N.Network.means c.args.network.now) in
-    let ends = row_ends g.W.Weight.algebra graph c.args.hub_list.now c.args.site_places.now c.args.rows.now c.args.waiting.now c.loop-at.at c.loop-at.site_places c.loop-at.rows c.loop-at.waiting
+    let ends = row_ends g.N.W.Weight.algebra graph c.args.hub_list.now c.args.site_places.now c.args.rows.now c.args.waiting.now c.loop-at.at c.loop-at.site_places c.loop-at.rows c.loop-at.waiting
     c.loop-at.invariant (ap length c.requires.rows ∙ length-replicate _ blank_row) c.loop-at-test.true in
     subst (λ s. c.loop-at.at * s + s ≤ length c.loop-at.rows) (sym c.sites-sites.ensures) ends
 
@@ -28,7 +28,7 @@ fill_row-requires g c =
     let sites = graph.sites in
     let at = c.loop-at.at in
     let count : at * sites + sites - at * sites ≡ sites = omega arith in
-    let blank = row_blank g.W.Weight.algebra graph c.args.hub_list.now c.args.site_places.now c.args.rows.now c.args.waiting.now at c.loop-at.site_places c.loop-at.rows c.loop-at.waiting
+    let blank = row_blank g.N.W.Weight.algebra graph c.args.hub_list.now c.args.site_places.now c.args.rows.now c.args.waiting.now at c.loop-at.site_places c.loop-at.rows c.loop-at.waiting
     c.loop-at.invariant (ap length c.requires.rows ∙ length-replicate _ blank_row) c.loop-at-test.true c.requires.rows in
     record {
       row = ap (λ s. take (at * s + s - at * s) (drop (at * s) c.loop-at.rows)) c.sites-sites.ensures ∙ ap (λ n. take n (drop (at * sites) c.loop-at.rows)) count ∙ blank;
@@ -39,7 +39,7 @@ fill_row-requires g c =
 pub loop-at-preserved : goal.loop-at-preserved
 loop-at-preserved g c =
     let graph = g.N.Network.graph (g.N.Network.means c.args.network.now) in
-    let k = g.W.Weight.algebra in
+    let k = g.N.W.Weight.algebra in
     let sites = graph.sites in
     let at = c.loop-at.at in
     let count : at * sites + sites - at * sites ≡ sites = omega arith in
@@ -57,10 +57,10 @@ loop-at-preserved g c =
 
 pub returns-in_default : goal.returns-in_default
 returns-in_default g c =
-    all_rows g.W.Weight.algebra (g.N.Network.graph (g.N.Network.means c.args.network.now)) c.args.hub_list.now c.args.site_places.now c.args.rows.now c.args.waiting.now c.loop-at.at c.loop-at.site_places c.loop-at.rows c.loop-at.waiting
+    all_rows g.N.W.Weight.algebra (g.N.Network.graph (g.N.Network.means c.args.network.now)) c.args.hub_list.now c.args.site_places.now c.args.rows.now c.args.waiting.now c.loop-at.at c.loop-at.site_places c.loop-at.rows c.loop-at.waiting
     c.loop-at.invariant (ap length c.requires.rows ∙ length-replicate _ blank_row) (listed_to_blank c.args.hub_list.now c.loop-at.at c.loop-at-test.true c.in_default.is)
 
 pub returns : goal.returns
 returns g c =
-    all_rows g.W.Weight.algebra (g.N.Network.graph (g.N.Network.means c.args.network.now)) c.args.hub_list.now c.args.site_places.now c.args.rows.now c.args.waiting.now c.loop-at.at c.loop-at.site_places c.loop-at.rows c.loop-at.waiting
+    all_rows g.N.W.Weight.algebra (g.N.Network.graph (g.N.Network.means c.args.network.now)) c.args.hub_list.now c.args.site_places.now c.args.rows.now c.args.waiting.now c.loop-at.at c.loop-at.site_places c.loop-at.rows c.loop-at.waiting
     c.loop-at.invariant (ap length c.requires.rows ∙ length-replicate _ blank_row) (listed_to_end c.args.hub_list.now c.loop-at.at c.loop-at-test.false)

@@ -26,7 +26,7 @@ fill_balls-filled-requires g c =
     let fits = subst (λ n. SizesFit n (length c.args.hub_list.now) (length c.args.site_places.now) (length c.args.rows.now) (length c.args.entries.now) (length c.args.waiting.now))
     c.sites-sites.ensures (c.fit.ensures.yes c.if-not-fit.false) in
     record {
-      few = (fits.few_sites, omega (arith, fits.few_entries, ap length c.blank_all.ensures.entries, length-replicate (length c.args.entries.now) (blank_entry g.W.Weight.algebra)));
+      few = (fits.few_sites, omega (arith, fits.few_entries, ap length c.blank_all.ensures.entries, length-replicate (length c.args.entries.now) (blank_entry g.N.W.Weight.algebra)));
       places = c.fill_rows.ensures.place_size ∙ ap length c.blank_all.ensures.sites ∙ length-replicate (length c.args.site_places.now) blank_site ∙ fits.one_each;
       room = omega (arith, fits.room, c.fill_rows.ensures.spared.size);
     }
@@ -38,7 +38,7 @@ slice_bounds-overwrite-end g c =
 
 pub returns-in-Ok : goal.returns-in-Ok
 returns-in-Ok g c =
-    let k = g.W.Weight.algebra in
+    let k = g.N.W.Weight.algebra in
     let graph = g.N.Network.graph (g.N.Network.means c.args.network.now) in
     let m = memory c.args.hub_list.now c.args.site_places.now c.args.rows.now c.args.entries.now c.args.waiting.now in
     let fits : Fits graph.sites m = subst (λ n. SizesFit n (length c.args.hub_list.now) (length c.args.site_places.now) (length c.args.rows.now) (length c.args.entries.now) (length c.args.waiting.now)) c.sites-sites.ensures (c.fit.ensures.yes c.if-not-fit.false) in
@@ -54,7 +54,7 @@ returns-in-Ok g c =
 
 pub returns-in-Err : goal.returns-in-Err
 returns-in-Err g c =
-    let k = g.W.Weight.algebra in
+    let k = g.N.W.Weight.algebra in
     let graph = g.N.Network.graph (g.N.Network.means c.args.network.now) in
     let m = memory c.args.hub_list.now c.args.site_places.now c.args.rows.now c.args.entries.now c.args.waiting.now in
     let fits : Fits graph.sites m = subst (λ n. SizesFit n (length c.args.hub_list.now) (length c.args.site_places.now) (length c.args.rows.now) (length c.args.entries.now) (length c.args.waiting.now)) c.sites-sites.ensures (c.fit.ensures.yes c.if-not-fit.false) in

@@ -12,7 +12,7 @@ returns-in_err-check_agreed g c =
     let m = g.N.Network.means c.args.network.now in
     let p = err_from_is_err_and c.from_residual.result c.from_residual.ensures.1 in
     record {
-      changed = not_agreed _ b (with_book g.W.Weight.algebra b (g.N.Network.rule m c.args.change)) (m, b) _ _ c.in_err-check_agreed.ensures (p.1 ∙ ap (λ e. Err e) p.2);
+      changed = not_agreed _ b (with_book g.N.W.Weight.algebra b (g.N.Network.rule m c.args.change)) (m, b) _ _ c.in_err-check_agreed.ensures (p.1 ∙ ap (λ e. Err e) p.2);
       left = λ _. refl;
     }
 
@@ -23,8 +23,8 @@ returns-in_err-answer g c =
     let p = err_from_is_err_and c.from_residual-in_err-answer.result c.from_residual-in_err-answer.ensures.1 in
     record {
       changed =
-          agreed _ b (with_book g.W.Weight.algebra b (g.N.Network.rule m c.args.change)) (m, b) _ _ c.in_ok-check_agreed.ensures
-          (change_refused g.W.Weight.algebra b m _ (g.N.Network.rule m c.args.change) _ _ c.in_err-answer.ensures.obeys (p.1 ∙ ap (λ e. Err e) p.2));
+          agreed _ b (with_book g.N.W.Weight.algebra b (g.N.Network.rule m c.args.change)) (m, b) _ _ c.in_ok-check_agreed.ensures
+          (change_refused g.N.W.Weight.algebra b m _ (g.N.Network.rule m c.args.change) _ _ c.in_err-answer.ensures.obeys (p.1 ∙ ap (λ e. Err e) p.2));
       left = λ _. c.in_err-answer.ensures.left refl;
     }
 
@@ -34,7 +34,7 @@ returns g c =
     let m = g.N.Network.means c.args.network.now in
     record {
       changed =
-          agreed _ b (with_book g.W.Weight.algebra b (g.N.Network.rule m c.args.change)) (m, b) _ _ c.in_ok-check_agreed.ensures
-          (change_granted g.W.Weight.algebra b m _ (g.N.Network.rule m c.args.change) _ _ c.in_ok-answer.ensures.obeys c.unbuild.ensures);
+          agreed _ b (with_book g.N.W.Weight.algebra b (g.N.Network.rule m c.args.change)) (m, b) _ _ c.in_ok-check_agreed.ensures
+          (change_granted g.N.W.Weight.algebra b m _ (g.N.Network.rule m c.args.change) _ _ c.in_ok-answer.ensures.obeys c.unbuild.ensures);
       left = λ e. absurd (true≢false e);
     }

@@ -25,7 +25,7 @@ hub_total-hub-requires g c = let fits = c.fit.ensures.yes c.if-not-fit.false in 
 
 pub returns : goal.returns
 returns g c =
-    let k = g.W.Weight.algebra in
+    let k = g.N.W.Weight.algebra in
     let net = c.args.network.now in
     let graph = g.N.Network.graph (g.N.Network.means net) in
     let shows = g.N.Network.lawful.sound (g.N.Network.means net) (g.N.Network.lawful.valid net) in

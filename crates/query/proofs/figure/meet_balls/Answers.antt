@@ -11,5 +11,5 @@ returns g c =
     let es = c.args.entries.now in
     let graph = g.N.Network.graph (g.N.Network.means c.args.network.now) in
     λ _ _ _.
-    subst (λ n. Met g.W.Weight.algebra graph (take n (drop here.first es)) (take there.count (drop there.first es)) c.meet.result) one
-    (subst (λ n. Met g.W.Weight.algebra graph (take (here.first + here.count - here.first) (drop here.first es)) (take n (drop there.first es)) c.meet.result) other c.meet.ensures)
+    subst (λ n. Met g.N.W.Weight.algebra graph (take n (drop here.first es)) (take there.count (drop there.first es)) c.meet.result) one
+    (subst (λ n. Met g.N.W.Weight.algebra graph (take (here.first + here.count - here.first) (drop here.first es)) (take n (drop there.first es)) c.meet.result) other c.meet.ensures)

@@ -5,16 +5,16 @@ use Rattle.query.proofs.Meetings.{no_site, one_site, all_sites}
 use Rattle.query.proofs.meeting.meet_sites.Goals as goal
 
 pub loop-entry-init : goal.loop-entry-init
-loop-entry-init g c = no_site g.W.Weight.algebra (g.N.Network.graph (g.N.Network.means c.args.network.now)) c.args.ball.now c.args.other.now
+loop-entry-init g c = no_site g.N.W.Weight.algebra (g.N.Network.graph (g.N.Network.means c.args.network.now)) c.args.ball.now c.args.other.now
 
 pub loop-entry-preserved : goal.loop-entry-preserved
 loop-entry-preserved g c =
-    one_site g.W.Weight.algebra (g.N.Network.graph (g.N.Network.means c.args.network.now)) c.args.ball.now c.args.other.now c.loop-entry.entry-index c.entry-item.result (so_far c.loop-entry.best) (so_far c.meet_site-best.result)
+    one_site g.N.W.Weight.algebra (g.N.Network.graph (g.N.Network.means c.args.network.now)) c.args.ball.now c.args.other.now c.loop-entry.entry-index c.entry-item.result (so_far c.loop-entry.best) (so_far c.meet_site-best.result)
     c.loop-entry-test.true c.entry-item.is c.loop-entry.invariant c.meet_site-best.ensures
 
 pub returns-then-best-eq0 : goal.returns-then-best-eq0
 returns-then-best-eq0 g c =
-    let k = g.W.Weight.algebra in
+    let k = g.N.W.Weight.algebra in
     let graph = g.N.Network.graph (g.N.Network.means c.args.network.now) in
     let best = c.loop-entry.best in
     let met = all_sites k graph c.args.ball.now c.args.other.now c.loop-entry.entry-index (so_far best) c.loop-entry-test.false c.loop-entry.invariant in
@@ -22,7 +22,7 @@ returns-then-best-eq0 g c =
 
 pub returns : goal.returns
 returns g c =
-    let k = g.W.Weight.algebra in
+    let k = g.N.W.Weight.algebra in
     let graph = g.N.Network.graph (g.N.Network.means c.args.network.now) in
     let best = c.loop-entry.best in
     let met = all_sites k graph c.args.ball.now c.args.other.now c.loop-entry.entry-index (so_far best) c.loop-entry-test.false c.loop-entry.invariant in

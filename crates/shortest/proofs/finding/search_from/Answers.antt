@@ -6,7 +6,7 @@ use Rattle.shortest.proofs.finding.search_from.Goals as goal
 pub search-requires : goal.search-requires
 search-requires g c =
     record {
-      sound = empty_sound g.W.Weight.algebra c.args.waiting.now c.sites-sites.result (omega arith);
+      sound = empty_sound g.N.W.Weight.algebra c.args.waiting.now c.sites-sites.result (omega arith);
       empty = (refl, refl);
       sites = c.sites-sites.ensures;
       there = omega arith;
@@ -15,6 +15,6 @@ search-requires g c =
 pub returns : goal.returns
 returns g c =
     let lender = c.search.ensures.lender in
-    left_in g.W.Weight.algebra (g.N.Network.graph (g.N.Network.means c.args.network.now)) c.args.source c.args.cut
+    left_in g.N.W.Weight.algebra (g.N.Network.graph (g.N.Network.means c.args.network.now)) c.args.source c.args.cut
     c.args.waiting.now _ c.sites-sites.result _ c.sites-sites.ensures (state c.search.new.queue) c.search.ensures.searched
     (omega arith) (omega arith) (search rules) refl

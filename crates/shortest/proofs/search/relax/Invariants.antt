@@ -6,7 +6,7 @@ use Rattle.shortest.proofs.search.relax.Given as goal
 
 abbrev pub invariant-loop-link : goal.invariant-loop-link
 invariant-loop-link g l =
-    UnderWay g.W.Weight.algebra (g.N.Network.graph (g.N.Network.means l.network)) l.cut (state l.initial.queue) l.from (state l.queue) l.link
+    UnderWay g.N.W.Weight.algebra (g.N.Network.graph (g.N.Network.means l.network)) l.cut (state l.initial.queue) l.from (state l.queue) l.link
     × (l.queue.places.ghost_name ≡ l.initial.queue.places.ghost_name)
 
 abbrev pub decreases-loop-link : goal.decreases-loop-link

@@ -5,7 +5,7 @@ use Rattle.shortest.specs.Queues.{state, settled_of}
 
 abbrev pub invariant-loop-label : goal.invariant-loop-label
 invariant-loop-label g l =
-    Running g.W.Weight.algebra (g.N.Network.graph (g.N.Network.means l.network)) l.source l.cut (state l.initial.queue) (state l.queue)
+    Running g.N.W.Weight.algebra (g.N.Network.graph (g.N.Network.means l.network)) l.source l.cut (state l.initial.queue) (state l.queue)
     × (l.queue.places.ghost_name ≡ l.initial.queue.places.ghost_name)
 
 abbrev pub decreases-loop-label : goal.decreases-loop-label

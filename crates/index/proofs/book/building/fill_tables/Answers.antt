@@ -14,7 +14,7 @@ returns g c =
     let rest = taken_rest_kept b held _ _ _ c.fill-filled.auto.site_places c.fill-filled.auto.rows c.fill-filled.auto.entries old same in
     record {
       filled = taken_filled_back b held _ _ _ c.fill-filled.auto.site_places c.fill-filled.auto.rows c.fill-filled.auto.entries old same
-          g.W.Weight.algebra (g.N.Network.graph (g.N.Network.means c.args.network.now)) c.args.waiting.now c.fill-filled.new.waiting c.fill-filled.result c.fill-filled.ensures;
+          g.N.W.Weight.algebra (g.N.Network.graph (g.N.Network.means c.args.network.now)) c.args.waiting.now c.fill-filled.new.waiting c.fill-filled.result c.fill-filled.ensures;
       rest = rest;
       kept = kept_again t c.requires.kept _ rest refl;
     }

@@ -33,7 +33,7 @@ pub returns : goal.returns
 returns g c =
     let q = c.args.self.now in
     record {
-      lender = refl {a = c.args.self.now.places.name};
+      lender = refl {a = c.args.self.now.places.ghost_name};
       offered = entered_offering g.W.Weight.algebra q.places.now q.sites q.count q.settled c.requires.sound c.args.label c.requires.there c.requires.new c.write_label.new.places c.point.new.places c.sift_up.new.places
           c.write_label.ensures c.point.ensures c.sift_up.ensures.ordered c.sift_up.ensures.moves;
     }

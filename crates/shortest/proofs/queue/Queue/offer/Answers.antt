@@ -30,7 +30,7 @@ pub returns-then-at-self : goal.returns-then-at-self
 returns-then-at-self g c =
     let q = c.args.self.now in
     record {
-      lender = refl {a = c.args.self.now.places.name};
+      lender = refl {a = c.args.self.now.places.ghost_name};
       offered = left_done g.W.Weight.algebra q.places.now q.sites q.count q.settled c.requires.sound c.args.label c.requires.there _ _ refl c.in-Some.at c.in-Some.ensures _ c.if-not-is_of.ensures c.if-at-self.true;
     }
 
@@ -47,6 +47,6 @@ pub returns-else-nearer : goal.returns-else-nearer
 returns-else-nearer g c =
     let q = c.args.self.now in
     record {
-      lender = refl {a = c.args.self.now.places.name};
+      lender = refl {a = c.args.self.now.places.ghost_name};
       offered = left_near g.W.Weight.algebra q.places.now q.sites q.count q.settled c.requires.sound c.args.label c.requires.there _ _ refl c.in-Some.at c.in-Some.ensures _ c.if-not-is_of.ensures c.if-at-self.false c.if-nearer.ensures;
     }

@@ -41,7 +41,7 @@ returns g c =
     let zs = c.sift_down.new.places in
     let e = c.sift_down.ensures in
     record {
-      lender = refl {a = c.args.self.now.places.name};
+      lender = refl {a = c.args.self.now.places.ghost_name};
       sound = settled_sound g.W.Weight.algebra q.places.now q.sites q.count q.settled c.requires c.if-self-eq0.false c.swap_labels.new.places c.swap_labels.ensures first.0 first.1.0 c.point.new.places laid zs e.ordered e.moves;
       spared = settled_spared g.W.Weight.algebra q.places.now q.sites q.count q.settled c.requires c.if-self-eq0.false c.swap_labels.new.places c.swap_labels.ensures first.0 first.1.0 c.point.new.places laid zs e.ordered e.moves;
       one = settled_one g.W.Weight.algebra q.places.now q.sites q.count q.settled c.requires c.if-self-eq0.false c.swap_labels.new.places c.swap_labels.ensures first.0 first.1.0 c.point.new.places laid zs e.ordered e.moves _ first.1.1;
