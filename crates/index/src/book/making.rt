@@ -9,7 +9,7 @@ use super::Book;
 use super::tables::Tables;
 use crate::fault::IndexFault;
 use filling::places::{Entry, RowPlace, SitePlace};
-use filling::tables::{MOST_ENTRIES, MOST_HUBS, MOST_SITES};
+pub use filling::tables::{MOST_ENTRIES, MOST_HUBS, MOST_SITES};
 use network::lent::overwrite;
 use weight::Weight;
 

@@ -1,5 +1,5 @@
 // The memory of a book, which its user lends.
-use filling::places::{Entry, RowPlace, SitePlace};
+pub use filling::places::{Entry, RowPlace, SitePlace};
 
 // Sizes, the count of hubs, whether a build stands, and the lent places.
 #[derive(Drop)]

@@ -17,4 +17,4 @@ pub returns-then-hub-site-2 : goal.returns-then-hub-site-2
 returns-then-hub-site-2 c = beyond_there _ _ _ c.loop-at.invariant c.in-Some.hub c.loop-at-test.true c.in-Some.is c.if-hub-site-2.true
 
 pub returns : goal.returns
-returns c = none_left _ _ _ c.loop-at.invariant c.loop-at.auto.at_end c.loop-at-test.false
+returns c = none_left _ _ _ c.loop-at.invariant c.loop-at.auto.at-end c.loop-at-test.false
