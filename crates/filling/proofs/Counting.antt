@@ -1,5 +1,5 @@
 -- How many entries balls have is settled by the network and its hubs alone.
-use Rattle.std.proofs.Common.{◌≡◌, ℕ, zero, suc, ◌+◌, ◌<◌, ◌≤◌, ◌⊎◌, List, length, get_or, Option, sym, refl, ap, ◌∙◌, subst, inl, inr, ⊎_elim, arith}
+use Rattle.std.proofs.Common.{◌≡◌, ℕ, zero, suc, ◌+◌, ◌<◌, ◌≤◌, ◌⊎◌, List, length, get_or, Option, sym, ap, ◌∙◌, subst, inl, inr, ⊎_elim, arith}
 use Rattle.std.proofs.lemmas.Bool.{cases_lt}
 use Rattle.weight.specs.Algebra.{Algebra}
 use Rattle.network.specs.Graph.{Graph}
@@ -11,7 +11,7 @@ use Rattle.shortest.specs.declared.waiting.Label.{Label}
 use Rattle.shortest.proofs.Pigeons.{crowded}
 use Rattle.shortest.proofs.Searching.{at_place}
 use Rattle.shortest.proofs.Settled.{mem_place}
-use Rattle.filling.specs.Standing.{Ball, Balls}
+use Rattle.filling.specs.Standing.{Balls}
 
 module _ {V : Type 0} (k : Algebra V) (g : Graph V) (v : ℕ) (cut : Option V) where
   abbrev source : Label V

@@ -1,5 +1,5 @@
 -- All tables: rows and balls were filled over blank places, or a ball found no room.
-use Rattle.std.proofs.Common.{◌≡◌, ℕ, ◌-◌, ◌*◌, ◌<◌, ◌≤◌, List, ◌++◌, length, get_or, take, drop, replicate, Ok, Err, Option, sym, ap, ◌∙◌, subst, arith}
+use Rattle.std.proofs.Common.{◌≡◌, ℕ, ◌-◌, ◌≤◌, List, ◌++◌, length, get_or, take, drop, replicate, Ok, Err, ap, ◌∙◌, subst, arith}
 use Rattle.std.proofs.lemmas.List.{length-replicate, get_or-replicate}
 use Rattle.weight.specs.Algebra.{Algebra}
 use Rattle.network.specs.Graph.{Graph}
@@ -9,7 +9,7 @@ use Rattle.filling.specs.Balls.{BallsFilled}
 use Rattle.filling.specs.Places.{blank_site, blank_row, blank_entry, blanked, listed}
 use Rattle.filling.specs.Rows.{Spared, RowsFilled}
 use Rattle.filling.specs.Standing.{LacksRoom}
-use Rattle.filling.specs.Tables.{Memory, memory, SizesFit, Fits, Blank, Full}
+use Rattle.filling.specs.Tables.{Memory, memory, Fits, Blank, Full}
 use Rattle.filling.specs.declared.places.Entry.{Entry}
 use Rattle.filling.specs.declared.places.RowPlace.{RowPlace}
 use Rattle.filling.specs.declared.places.SitePlace.{SitePlace}

@@ -1,15 +1,13 @@
 -- One hub: its row was filled and each site told of it.
-use Rattle.std.proofs.Common.{◌≡◌, ℕ, ◌+◌, ◌-◌, ◌<◌, ◌≤◌, List, [], ◌∷◌, ◌++◌, length, get_or, drop, replicate, Some, None, Option, sym, refl, ap, ◌∙◌, subst, ⊎_elim, arith}
+use Rattle.std.proofs.Common.{◌≡◌, ℕ, ◌+◌, ◌<◌, ◌≤◌, List, [], ◌∷◌, ◌++◌, length, get_or, drop, replicate, None, Option, sym, ap, ◌∙◌, subst, ⊎_elim, arith}
 use mathlib.Core.List.Memᴰ
 use mathlib.Core.List.{Memᴰ}
 use Rattle.std.proofs.lemmas.Bool.{cases_lt}
 use Rattle.weight.specs.Algebra.{Algebra}
-use Rattle.network.specs.Graph.{Graph, Sound, At}
-use Rattle.network.specs.Walks.{Walk, Unjoined}
-use Rattle.network.specs.declared.link.Link.{Link}
+use Rattle.network.specs.Graph.{Graph, Sound}
+use Rattle.network.specs.Walks.{Unjoined}
 use Rattle.network.proofs.Closing.{end_exists}
 use Rattle.shortest.specs.Finding.{Found}
-use Rattle.shortest.specs.Places.{label_at}
 use Rattle.shortest.specs.Searches.{SearchedIn}
 use Rattle.shortest.specs.Queues.{settled_labels}
 use Rattle.shortest.specs.declared.waiting.Label.{Label}

@@ -1,9 +1,9 @@
 -- Sites that are told of a hub one after the other, and what this makes of their hubs.
-use Rattle.std.proofs.Common.{◌≡◌, ℕ, ◌+◌, ◌<◌, ◌≤◌, Bool, true, false, cond, ltb, ◌⊎◌, List, [], ◌∷◌, ◌++◌, length, get_or, set, Some, None, Option, sym, refl, ap, ◌∙◌, subst, inl, inr, ⊎_elim, arith}
+use Rattle.std.proofs.Common.{◌≡◌, ℕ, ◌+◌, ◌<◌, ◌≤◌, Bool, true, false, cond, ltb, List, [], ◌∷◌, ◌++◌, length, get_or, set, Some, None, Option, sym, refl, ap, ◌∙◌, subst, ⊎_elim, arith}
 use mathlib.Core.List.{Memᴰ}
 use Rattle.std.proofs.lemmas.List.{length-set, get_or-set_same, get_or-set_other, get_or_default}
-use Rattle.std.proofs.lemmas.Bool.{cases_eq, cases_Bool, cases_lt, cond-true, cond-false, ltb-true, ltb-false, true≢false}
-use Rattle.weight.specs.Algebra.{Algebra, AtMost}
+use Rattle.std.proofs.lemmas.Bool.{cases_eq, cond-true, cond-false, ltb-true, ltb-false, true≢false}
+use Rattle.weight.specs.Algebra.{Algebra}
 use Rattle.network.specs.Graph.{Graph, Sound}
 use Rattle.network.specs.Walks.{Distance, Unjoined}
 use Rattle.network.proofs.Orders.{at_most_from_less}

@@ -1,12 +1,11 @@
 -- A row that took labels, each at the place of its site.
-use Rattle.std.proofs.Common.{◌≡◌, ℕ, ◌+◌, ◌-◌, ◌<◌, ◌≤◌, ltb, ◌⊎◌, List, [], ◌∷◌, ◌++◌, length, get_or, set, replicate, Some, None, Option, sym, refl, ap, ◌∙◌, subst, inl, inr, ⊎_elim, add-one, arith}
+use Rattle.std.proofs.Common.{◌≡◌, ℕ, ◌+◌, ◌-◌, ◌<◌, ltb, ◌⊎◌, List, [], ◌∷◌, ◌++◌, length, get_or, set, replicate, None, Option, sym, refl, ap, ◌∙◌, subst, inl, inr, ⊎_elim, add-one, arith}
 use mathlib.Core.List.Memᴰ
 use mathlib.Core.List.{Memᴰ}
 use Rattle.std.proofs.lemmas.List.{length-set, get_or-set_same, get_or-set_other, get_or-replicate, length-replicate}
 use Rattle.std.proofs.lemmas.Bool.{cases_eq, cond-true, lt-ltb}
 use Rattle.weight.specs.Algebra.{Algebra}
 use Rattle.network.specs.Graph.{Graph}
-use Rattle.network.specs.Walks.{Unjoined}
 use Rattle.shortest.specs.Finding.{Found}
 use Rattle.shortest.specs.Places.{label_at}
 use Rattle.shortest.specs.Queues.{settled_labels, listed}
@@ -15,7 +14,7 @@ use Rattle.shortest.specs.declared.waiting.Label.{Label}
 use Rattle.shortest.specs.declared.waiting.Waiting.{Waiting}
 use Rattle.filling.specs.Places.{blank_row}
 use Rattle.filling.specs.Rows.{rowed, row_place}
-use Rattle.filling.specs.Standing.{RowStands, HubStands}
+use Rattle.filling.specs.Standing.{HubStands}
 use Rattle.filling.specs.declared.places.RowPlace.{RowPlace}
 
 module _ {V : Type 0} where

@@ -1,5 +1,5 @@
 -- Hub after hub: the rows of those looked at so far are filled.
-use Rattle.std.proofs.Common.{◌≡◌, ℕ, suc, ◌+◌, ◌-◌, ◌*◌, ◌<◌, ◌≤◌, List, [], ◌∷◌, ◌++◌, length, get_or, take, drop, replicate, Some, None, Option, sym, refl, ap, ◌∙◌, subst, ⊎_elim, add-mul, one-mul, arith}
+use Rattle.std.proofs.Common.{◌≡◌, ℕ, ◌+◌, ◌*◌, ◌<◌, ◌≤◌, List, [], ◌∷◌, ◌++◌, length, get_or, take, drop, replicate, Some, None, Option, sym, refl, ap, ◌∙◌, subst, ⊎_elim, add-mul, one-mul, arith}
 use borrow.Rule.Slice.PartMut.{put_mid}
 use Rattle.std.proofs.lemmas.List.{length-take-le, length-drop, length-replicate, get_or-replicate, take_more, get_or_push, length_push, get_or_append_left, same_lists, take-append-drop, take_all, drop_more}
 use Rattle.std.proofs.lemmas.Bool.{cases_lt}
@@ -7,7 +7,7 @@ use Rattle.weight.specs.Algebra.{Algebra}
 use Rattle.network.specs.Graph.{Graph}
 use Rattle.shortest.specs.declared.waiting.Waiting.{Waiting}
 use Rattle.filling.specs.Places.{listed, blank_site, blank_row}
-use Rattle.filling.specs.Rows.{Spared, RowFilled, RowsFilled}
+use Rattle.filling.specs.Rows.{RowFilled, RowsFilled}
 use Rattle.filling.specs.Standing.{Told, HubStands, RowStands}
 use Rattle.filling.specs.declared.places.RowPlace.{RowPlace}
 use Rattle.filling.specs.declared.places.SitePlace.{SitePlace}

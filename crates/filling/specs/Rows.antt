@@ -5,7 +5,6 @@ use Rattle.network.specs.Graph.{Graph}
 use Rattle.shortest.specs.Places.{label_at}
 use Rattle.shortest.specs.declared.waiting.Label.{Label}
 use Rattle.shortest.specs.declared.waiting.Waiting.{Waiting}
-use Rattle.filling.specs.Places.{listed}
 use Rattle.filling.specs.Standing.{Told, HubStands}
 use Rattle.filling.specs.declared.places.RowPlace.{RowPlace}
 use Rattle.filling.specs.declared.places.SitePlace.{SitePlace}

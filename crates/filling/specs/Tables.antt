@@ -1,5 +1,5 @@
 -- What the filling of all tables does, for every input.
-use Rattle.std.specs.Prelude.{◌≡◌, ℕ, ◌*◌, ◌<◌, ◌≤◌, Bool, true, false, cond, not, ◌&&◌, eqb, leb, ◌⊎◌, List, length, replicate, Ok, Err, Option, Result}
+use Rattle.std.specs.Prelude.{◌≡◌, ℕ, ◌*◌, ◌≤◌, List, length, replicate, Ok, Err, Option, Result}
 use Rattle.weight.specs.Algebra.{Algebra}
 use Rattle.network.specs.Graph.{Graph}
 use Rattle.shortest.specs.Places.{blank_place}

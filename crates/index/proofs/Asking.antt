@@ -1,5 +1,5 @@
 -- What passed checks tell, and a figure that was granted.
-use Rattle.std.proofs.Common.{◌≡◌, ℕ, ◌<◌, Bool, true, false, cond, leb, Some, None, Ok, Err, Result, refl, arith}
+use Rattle.std.proofs.Common.{◌≡◌, ℕ, ◌<◌, Bool, true, false, cond, leb, Some, None, Ok, Result, refl, arith}
 use Rattle.std.proofs.lemmas.Bool.{eqb-true, leb-false}
 use Rattle.weight.specs.Algebra.{Algebra}
 use Rattle.network.specs.Graph.{Graph}
@@ -8,7 +8,7 @@ use Rattle.index.specs.Asking.{no_site, not_built, Told, AskedWell, Asked, grant
 use Rattle.index.specs.Books.{BookState}
 use Rattle.index.specs.Calls.{differ}
 use Rattle.index.specs.declared.fault.IndexFault.{IndexFault}
-use Rattle.index.specs.declared.fault.IndexFault.TheVariants.{NoSuchSite, NotBuilt}
+use Rattle.index.specs.declared.fault.IndexFault.TheVariants.{NoSuchSite}
 use Rattle.index.proofs.Ruling.{agree_test}
 
 -- a test that would give a fault

@@ -1,10 +1,10 @@
 -- Each way out of a naming and an unnaming, by the rules.
-use Rattle.std.proofs.Common.{◌≡◌, ℕ, suc, ◌+◌, ◌-◌, ◌*◌, ◌<◌, ◌≤◌, Bool, true, false, cond, leb, List, [], ◌∷◌, ◌++◌, length, take, drop, Some, None, Ok, Err, Option, Result, sym, refl, ap, ◌∙◌, subst, arith}
+use Rattle.std.proofs.Common.{◌≡◌, ℕ, suc, ◌+◌, ◌-◌, ◌<◌, ◌≤◌, true, false, leb, List, ◌++◌, length, take, drop, Some, None, Ok, Err, Option, Result, sym, refl, ap, ◌∙◌, arith}
 use Rattle.std.proofs.lemmas.Bool.{le-leb, lt-leb}
 use Rattle.weight.specs.Algebra.{Algebra}
 use Rattle.filling.specs.Places.{listed}
-use Rattle.index.specs.Books.{BookState, tables_state, hubs_of, with_hubs, unbuilt}
-use Rattle.index.specs.Calls.{Ruling, refuse, grant, Follows, at_site, naming, unnaming}
+use Rattle.index.specs.Books.{BookState, tables_state, hubs_of, unbuilt}
+use Rattle.index.specs.Calls.{Ruling, refuse, Follows, at_site, naming, unnaming}
 use Rattle.index.specs.Hubs.{listing, has, insert, without, rank, ordered, moved_up, moved_down}
 use Rattle.index.specs.Keeping.{Kept}
 use Rattle.index.specs.declared.book.tables.Tables.{Tables}

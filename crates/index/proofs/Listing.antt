@@ -1,8 +1,7 @@
 -- Hub lists: ascending hubs, then blanks, and what naming and unnaming make of them.
-use Rattle.std.proofs.Common.{◌≡◌, ℕ, zero, suc, ◌+◌, ◌-◌, ◌<◌, ◌≤◌, Bool, true, false, cond, ◌&&◌, ◌||◌, eqb, ltb, leb, List, [], ◌∷◌, ◌++◌, map, length, take, drop, replicate, Some, None, Option, sym, refl, ap, ◌∙◌, subst, ⊎_elim, arith}
-use lib.ListN.{length-replicate}
-use Rattle.std.proofs.lemmas.List.{append_assoc, map-append, length-map, length-append, length-take-le, length-drop, take-append-drop, take-append-le, drop-append-le, take_all, take_at, drop_at, take-map, drop-map, drop-drop}
-use Rattle.std.proofs.lemmas.Bool.{and_parts, and_from, or_from, or_cases, or_parts, leb-true, ltb-true, le-leb, lt-leb, lt-ltb, le-ltb, eqb-true, eqb-false, eq-eqb, ne_eqb, cond-true, cond-false, cases_eq, cases_lt, cases_Bool, both_ways}
+use Rattle.std.proofs.Common.{◌≡◌, ℕ, zero, suc, ◌-◌, ◌<◌, ◌≤◌, true, false, ◌&&◌, eqb, ltb, leb, List, [], ◌∷◌, ◌++◌, map, length, take, drop, replicate, Some, None, Option, sym, refl, ap, ◌∙◌, subst, ⊎_elim, arith}
+use Rattle.std.proofs.lemmas.List.{append_assoc, length-append, length-drop, take-append-le, drop-append-le, take_at, drop_at}
+use Rattle.std.proofs.lemmas.Bool.{and_parts, and_from, or_cases, or_parts, leb-true, ltb-true, le-leb, lt-ltb, le-ltb, eqb-true, eqb-false, eq-eqb, ne_eqb, cond-true, cond-false, cases_eq, cases_lt, cases_Bool, both_ways}
 use Rattle.filling.specs.Places.{listed}
 use Rattle.index.specs.Hubs.{listing, has, insert, without, rank, blanks, ordered, moved_up, moved_down}
 

@@ -1,10 +1,10 @@
 -- The memory of a hub list before and after a naming or an unnaming.
-use Rattle.std.proofs.Common.{◌≡◌, ℕ, suc, ◌+◌, ◌-◌, ◌<◌, ◌≤◌, Bool, true, false, List, [], ◌∷◌, ◌++◌, map, length, take, drop, replicate, Some, None, Option, sym, refl, ap, ◌∙◌, subst, arith}
+use Rattle.std.proofs.Common.{◌≡◌, ℕ, suc, ◌+◌, ◌-◌, ◌<◌, ◌≤◌, true, false, List, ◌∷◌, ◌++◌, length, take, drop, replicate, Some, None, Option, sym, ap, ◌∙◌, arith}
 use lib.ListN.{length-replicate}
-use Rattle.std.proofs.lemmas.List.{append_assoc, map-append, length-map, length-append, length-drop, length-take-le, take-append-drop, take_at, drop_at, take-map, drop-map}
+use Rattle.std.proofs.lemmas.List.{append_assoc, map-append, length-map, length-append, length-drop, length-take-le, take-append-drop, take_at, take-map, drop-map}
 use Rattle.filling.specs.Places.{listed}
 use Rattle.index.specs.Hubs.{listing, has, insert, without, rank, ordered, moved_up, moved_down}
-use Rattle.index.proofs.Listing.{Climbs, somes, climbs_from_ordered, ordered_from_climbs, listing_from_ordered, listed_listing, length-insert, climbs_insert, rank_most, insert_is, without_is, rank_below, climbs_without, up_in, down_in}
+use Rattle.index.proofs.Listing.{Climbs, somes, climbs_from_ordered, ordered_from_climbs, listing_from_ordered, listed_listing, length-insert, rank_most, insert_is, without_is, rank_below, up_in, down_in}
 
 abbrev none : Option ℕ
 none = None

@@ -1,5 +1,5 @@
 -- The book: its sizes, and all the memory that it was lent, places past its sizes too.
-use Rattle.std.specs.Prelude.{◌≡◌, ℕ, ◌*◌, ◌≤◌, Bool, true, false, cond, List, ◌++◌, length, take, drop, Some, None, Option, Result}
+use Rattle.std.specs.Prelude.{◌≡◌, ℕ, ◌*◌, Bool, false, cond, List, ◌++◌, length, take, drop, Some, None, Option, Result}
 use Rattle.network.specs.Sizes.{or_then, checked}
 use Rattle.weight.specs.Algebra.{Algebra}
 use Rattle.filling.specs.Places.{blank_site, blank_row, blank_entry, blanked, listed}

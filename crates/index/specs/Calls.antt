@@ -1,5 +1,5 @@
 -- The calls on an index, each as one relation between what was before, the answer, and what is afterwards.
-use Rattle.std.specs.Prelude.{◌≡◌, ℕ, suc, Bool, true, false, cond, not, length, Some, None, Ok, Err, Option, Result, ◌==◌, nat_le}
+use Rattle.std.specs.Prelude.{◌≡◌, ℕ, suc, cond, length, Some, None, Ok, Err, Option, Result, ◌==◌, nat_le}
 use Rattle.network.specs.Rulings as network
 use Rattle.network.specs.Graph.{Graph}
 use Rattle.weight.specs.Algebra.{Algebra}

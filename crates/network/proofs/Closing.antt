@@ -4,7 +4,7 @@ use Rattle.weight.specs.Algebra.{Algebra, AtMost}
 use Rattle.network.specs.Graph.{Graph, At, Sound, back}
 use Rattle.network.specs.Walks.{Walk, total, Below}
 use Rattle.network.specs.declared.link.Link.{Link}
-use Rattle.network.proofs.Orders.{at_most_refl, at_most_trans, plus_at_most, at_most_plus, below_lower, total-append, zero_plus}
+use Rattle.network.proofs.Orders.{at_most_refl, at_most_trans, plus_at_most, at_most_plus, below_lower, total-append}
 
 module _ {V : Type 0} (k : Algebra V) (g : Graph V) where
   -- ---- walks put together and turned round

@@ -1,10 +1,10 @@
 -- The graph of a register is sound.
-use Rattle.std.proofs.Common.{◌≡◌, ℕ, zero, suc, ◌+◌, ◌<◌, ◌≤◌, Bool, true, false, cond, ◌&&◌, eqb, ◌⊎◌, List, [], ◌∷◌, length, sym, refl, ap, ◌∙◌, subst, inl, inr, ⊎_elim, arith}
+use Rattle.std.proofs.Common.{◌≡◌, ℕ, zero, suc, ◌+◌, ◌<◌, ◌≤◌, true, false, cond, ◌&&◌, eqb, ◌⊎◌, List, [], ◌∷◌, length, sym, refl, ap, ◌∙◌, subst, inl, inr, ⊎_elim, arith}
 use mathlib.Core.List.Memᴰ
 use mathlib.Core.List.{Memᴰ}
 use Rattle.std.specs.List.{AllByRecursion as All}
 use Rattle.std.proofs.lemmas.Bool.{cases_Bool, cond-true, cond-false, and_parts, and_from, and_right, or_from, or_cases, or_left, or_right, both_ways, eqb-true, eqb-false, eq-eqb, ne_eqb}
-use Rattle.network.specs.Graph.{Graph, Sound, At, back}
+use Rattle.network.specs.Graph.{Sound, At, back}
 use Rattle.network.specs.Links.{Absent, Apart}
 use Rattle.network.specs.Registers.{Given, Ended, Meaning, Valid, graph, links_from, told, touches}
 use Rattle.network.specs.declared.link.Link.{Link}

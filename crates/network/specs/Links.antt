@@ -1,5 +1,5 @@
 -- The links of a site as a list, and how they are told one by one.
-use Rattle.std.specs.Prelude.{◌≡◌, ℕ, cond, List, [], ◌∷◌, Some, None, Option, ◌==◌, ◌≢◌}
+use Rattle.std.specs.Prelude.{ℕ, cond, List, [], ◌∷◌, Some, None, Option, ◌==◌, ◌≢◌}
 use Rattle.network.specs.declared.link.Link.{Link}
 
 -- the first link of the list, none where there is none

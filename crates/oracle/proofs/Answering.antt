@@ -1,9 +1,8 @@
 -- What the answers by numbers alone mean for figures.
-use Rattle.std.proofs.Common.{◌≡◌, ℕ, Bool, true, false, not, List, is_some, Some, None, Option, sym, refl, ap, ◌∙◌, subst, ⊎_elim}
+use Rattle.std.proofs.Common.{◌≡◌, ℕ, true, false, not, is_some, Some, None, Option, sym, ap, ◌∙◌, subst, ⊎_elim}
 use Rattle.std.proofs.lemmas.Bool.{true≢false}
 use Rattle.weight.specs.Algebra.{Algebra, AtMost}
-use Rattle.network.specs.Graph.{Graph, Sound}
-use Rattle.network.specs.Walks.{Walk, total, Below}
+use Rattle.network.specs.Walks.{total, Below}
 use Rattle.oracle.specs.Laws.{together, is_below, MeetsBelowRadii, ExactBelowRadii, NoFigure, OfAWalk, OnlyJoined, OnlyUnjoined, NotBoth}
 use Rattle.oracle.specs.Radius.{radius_of}
 use Rattle.oracle.specs.Rule.{Meets, lesser}

@@ -1,16 +1,16 @@
 -- Every walk between two sites either has a meeting that totals no more, or totals at least the two radii together:
 -- go along it to the first site outside the ball of its start.
-use Rattle.std.proofs.Common.{◌≡◌, ℕ, ◌<◌, Bool, true, false, ◌⊎◌, List, [], ◌∷◌, ◌++◌, Some, None, Option, sym, refl, ap, ◌∙◌, subst, inl, inr, ⊎_elim, append_assoc}
+use Rattle.std.proofs.Common.{◌≡◌, ℕ, true, false, ◌⊎◌, List, [], ◌∷◌, ◌++◌, Some, None, Option, sym, refl, ap, ◌∙◌, subst, inl, inr, ⊎_elim, append_assoc}
 use mathlib.Core.List.Memᴰ
 use mathlib.Core.List.{Memᴰ}
 use Rattle.std.proofs.lemmas.Bool.{cases_eq, cases_Bool, true≢false}
 use Rattle.weight.specs.Algebra.{Algebra, AtMost}
 use Rattle.network.specs.Graph.{Graph, At, Sound}
-use Rattle.network.specs.Walks.{Walk, total, Distance, Unjoined}
+use Rattle.network.specs.Walks.{Walk, total}
 use Rattle.network.specs.declared.link.Link.{Link}
 use Rattle.network.proofs.Closing.{joined, walked_on, turned, end_exists}
 use Rattle.network.proofs.Orders.{at_most_refl, at_most_trans, plus_at_most, total-append}
-use Rattle.oracle.specs.Radius.{Nearest, Radius, radius_of, InBall}
+use Rattle.oracle.specs.Radius.{Radius, radius_of}
 use Rattle.oracle.specs.Rule.{Ball, Meets}
 
 -- ---- in a ball, or not

@@ -1,5 +1,5 @@
 -- A distance is one value, and the same in both directions.
-use Rattle.std.proofs.Common.{◌≡◌, ℕ, List, sym, ◌∙◌, subst}
+use Rattle.std.proofs.Common.{◌≡◌, ℕ, List, ◌∙◌, subst}
 use Rattle.weight.specs.Algebra.{Algebra, AtMost}
 use Rattle.network.specs.Graph.{Graph, Sound}
 use Rattle.network.specs.Walks.{Walk, total, Distance, Unjoined}

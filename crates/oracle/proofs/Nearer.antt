@@ -8,7 +8,7 @@ use Rattle.network.specs.Walks.{Walk, total, Distance, Unjoined}
 use Rattle.network.specs.declared.link.Link.{Link}
 use Rattle.network.proofs.Orders.{at_most_both, at_most_trans}
 use Rattle.oracle.specs.Radius.{Nearest, Radius}
-use Rattle.oracle.proofs.Distances.{distance_at_most, one_distance}
+use Rattle.oracle.proofs.Distances.{one_distance}
 
 -- without a hub there is none
 pub no_hub : {V : Type 0} (k : Algebra V) (g : Graph V) (v : ℕ) → Radius k g [] v None

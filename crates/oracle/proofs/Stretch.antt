@@ -2,8 +2,8 @@
 use Rattle.std.proofs.Common.{◌≡◌, ℕ, ◌<◌, Bool, true, false, not, ◌⊎◌, List, [], ◌∷◌, ◌++◌, Some, None, Option, sym, refl, ap, ◌∙◌, subst, inl, inr, ⊎_elim}
 use Rattle.std.proofs.lemmas.Bool.{true≢false}
 use Rattle.weight.specs.Algebra.{Algebra, AtMost}
-use Rattle.network.specs.Graph.{Graph, At, Sound}
-use Rattle.network.specs.Walks.{Walk, total, Distance, Unjoined, Below}
+use Rattle.network.specs.Graph.{Graph, Sound}
+use Rattle.network.specs.Walks.{Walk, total, Unjoined, Below}
 use Rattle.network.specs.declared.link.Link.{Link}
 use Rattle.network.proofs.Closing.{joined, turned}
 use Rattle.network.proofs.Orders.{at_most_refl, at_most_trans, at_most_from_less, at_most_plus, less_at_most, plus_at_most, total-append}

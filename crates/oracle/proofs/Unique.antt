@@ -5,9 +5,8 @@ use Rattle.network.specs.Graph.{Graph}
 use Rattle.network.specs.Walks.{Distance}
 use Rattle.network.proofs.Orders.{at_most_both}
 use Rattle.oracle.specs.Radius.{Nearest, Radius, radius_of}
-use Rattle.oracle.specs.Rule.{Meets, Meeting, Through, HubTotal, HubTotalBy, no_wider, lesser, Totals, Figure}
+use Rattle.oracle.specs.Rule.{Meeting, Through, HubTotal, HubTotalBy, no_wider, lesser, Totals, Figure}
 use Rattle.oracle.proofs.Distances.{one_distance}
-use Rattle.oracle.proofs.Lesser.{none_some}
 
 module _ {V : Type 0} (k : Algebra V) (g : Graph V) where
   module _ (hubs : List ℕ) (v : ℕ) where

@@ -1,12 +1,12 @@
 -- What holds of figures, for every graph that shows what every network shows, wherever its hubs are. Only the laws of a
 -- kind are used, so sums may stop at a largest value, links may weigh nothing, and radii may be zero or unbounded.
-use Rattle.std.specs.Prelude.{◌≡◌, ℕ, Bool, true, false, ◌⊎◌, List, Some, None, Option, ◌≢◌}
+use Rattle.std.specs.Prelude.{◌≡◌, ℕ, Bool, true, List, Some, None, Option, ◌≢◌}
 use Rattle.weight.specs.Algebra.{Algebra, AtMost}
 use Rattle.network.specs.Graph.{Graph, Sound}
-use Rattle.network.specs.Walks.{Walk, total, Unjoined, Below}
+use Rattle.network.specs.Walks.{Walk, total, Unjoined}
 use Rattle.network.specs.declared.link.Link.{Link}
 use Rattle.oracle.specs.Radius.{Radius, radius_of}
-use Rattle.oracle.specs.Rule.{Ball, Meets, Totals, Figure, lesser}
+use Rattle.oracle.specs.Rule.{Meets, Totals, Figure}
 
 -- two radii together; with an unbounded one, unbounded
 abbrev pub together : {V : Type 0} → Algebra V → Option V → Option V → Option V

@@ -1,5 +1,5 @@
 -- From the tables of a build, two sites get the figure of the rule.
-use Rattle.std.proofs.Common.{◌≡◌, ℕ, ◌+◌, ◌<◌, ◌≤◌, ◌⊎◌, List, length, get_or, Some, None, Option, sym, refl, ap, ◌∙◌, subst, inl, inr, ⊎_elim, arith}
+use Rattle.std.proofs.Common.{◌≡◌, ℕ, ◌+◌, ◌≤◌, List, length, get_or, Some, None, Option, sym, refl, ap, ◌∙◌, subst, inl, inr, ⊎_elim, arith}
 use mathlib.Core.List.{Memᴰ}
 use Rattle.weight.specs.Algebra.{Algebra, AtMost}
 use Rattle.network.specs.Graph.{Graph, Sound, At}
@@ -17,7 +17,7 @@ use Rattle.filling.specs.declared.places.RowPlace.{RowPlace}
 use Rattle.filling.specs.declared.places.SitePlace.{SitePlace}
 use Rattle.query.specs.Figures.{part, MetParts, AskedRight, Right}
 use Rattle.query.specs.Hubs.{HubTold}
-use Rattle.query.specs.Meeting.{Crossing, Bounded, Met}
+use Rattle.query.specs.Meeting.{Crossing, Met}
 use Rattle.query.proofs.Meetings.{some_inside}
 use Rattle.query.proofs.Telling.{hub_total_is, few_count, part_ends, entry_in_ball, in_ball_entry, pairs, is_ball}
 

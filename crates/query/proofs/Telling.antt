@@ -1,34 +1,31 @@
 -- What the tables of a build tell of two sites: their meeting total and their hub total.
-use Rattle.std.proofs.Common.{◌≡◌, ℕ, suc, ◌+◌, ◌*◌, ◌<◌, ◌≤◌, Bool, true, false, ◌⊎◌, List, map, length, get_or, take, drop, Some, None, Option, sym, refl, ap, ◌∙◌, subst, inl, inr, ⊎_elim, arith}
+use Rattle.std.proofs.Common.{◌≡◌, ℕ, suc, ◌+◌, ◌*◌, ◌<◌, ◌≤◌, Bool, true, false, List, map, length, get_or, drop, Some, None, Option, sym, ap, ◌∙◌, subst, ⊎_elim, arith}
 use mathlib.Core.List.Memᴰ
 use mathlib.Core.List.{Memᴰ}
-use Rattle.std.proofs.lemmas.List.{length-take-le, length-drop, get_or_default}
+use Rattle.std.proofs.lemmas.List.{length-take-le, length-drop}
 use Rattle.std.proofs.lemmas.Bool.{cases_lt}
-use Rattle.weight.specs.Algebra.{Algebra, AtMost}
-use Rattle.network.specs.Graph.{Graph, Sound, At}
+use Rattle.weight.specs.Algebra.{Algebra}
+use Rattle.network.specs.Graph.{Graph}
 use Rattle.network.specs.Walks.{Distance, Unjoined, Below}
-use Rattle.network.specs.declared.link.Link.{Link}
 use Rattle.network.proofs.Closing.{end_exists}
-use Rattle.oracle.specs.Radius.{Radius, Nearest, radius_of, hub_of, InBall}
-use Rattle.oracle.specs.Rule.{Ball, Meets, Meeting, Through, HubTotal, HubTotalBy, no_wider, lesser, Totals, Figure}
+use Rattle.oracle.specs.Radius.{Radius, radius_of, hub_of, InBall}
+use Rattle.oracle.specs.Rule.{Ball, Through, HubTotal, HubTotalBy, no_wider}
 use Rattle.oracle.proofs.Distances.{one_distance}
 use Rattle.oracle.proofs.Lesser.{none_some}
-use Rattle.oracle.proofs.Stretch.{some_total}
 use Rattle.shortest.specs.Finding.{Found, source_label}
 use Rattle.shortest.specs.declared.waiting.Label.{Label}
 use Rattle.shortest.proofs.Pigeons.{crowded}
 use Rattle.shortest.proofs.Searching.{at_place}
 use Rattle.shortest.proofs.Settled.{mem_place}
-use Rattle.filling.specs.Places.{blank_row, blank_site, listed}
-use Rattle.filling.specs.Standing.{Balls, Told, SiteStands, RowStands, HubStands, TablesStand}
+use Rattle.filling.specs.Places.{blank_row, listed}
+use Rattle.filling.specs.Standing.{Balls, Told, SiteStands, RowStands, HubStands}
 use Rattle.filling.specs.declared.places.Entry.{Entry}
 use Rattle.filling.specs.declared.places.RowPlace.{RowPlace}
 use Rattle.filling.specs.declared.places.SitePlace.{SitePlace}
 use Rattle.filling.proofs.Counting.{more_entries}
 use Rattle.filling.proofs.Parts.{get_d_part}
-use Rattle.query.specs.Figures.{part, Right}
+use Rattle.query.specs.Figures.{part}
 use Rattle.query.specs.Hubs.{Placed, ThroughTold, no_radius, no_hub, unlisted, unreached, reached, HubTold, HubToldBy}
-use Rattle.query.specs.Meeting.{Crossing, Bounded, Met}
 use Rattle.query.proofs.Meetings.{some_inside}
 
 -- ---- the hub total

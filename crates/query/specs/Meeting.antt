@@ -1,5 +1,5 @@
 -- The least total over an entry of one ball, a link at its site, and an entry of another ball at the link's far site.
-use Rattle.std.specs.Prelude.{◌≡◌, ℕ, ◌≤◌, cond, ◌⊎◌, List, Some, None, Option, ◌==◌}
+use Rattle.std.specs.Prelude.{◌≡◌, ◌≤◌, cond, ◌⊎◌, List, Some, None, Option, ◌==◌}
 use mathlib.Core.List.{Memᴰ}
 use Rattle.weight.specs.Algebra.{Algebra, AtMost}
 use Rattle.network.specs.Graph.{Graph, At}

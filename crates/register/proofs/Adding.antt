@@ -1,10 +1,10 @@
 -- A register's memory after a link was added.
-use Rattle.std.proofs.Common.{◌≡◌, ℕ, suc, ◌+◌, ◌<◌, ◌≤◌, true, false, eqb, ◌⊎◌, List, [], ◌∷◌, ◌++◌, map, length, get_or, take, drop, set, Some, None, Option, sym, refl, ap, ◌∙◌, subst, inl, inr, ⊎_elim, arith, length-set, length-take-le, drop-set-lt}
+use Rattle.std.proofs.Common.{◌≡◌, ℕ, suc, ◌+◌, ◌<◌, true, false, List, [], ◌∷◌, ◌++◌, map, length, get_or, take, drop, set, Some, None, sym, refl, ap, ◌∙◌, subst, ⊎_elim, arith, length-set, length-take-le, drop-set-lt}
 use lib.ListN.{length-map}
 use Rattle.std.proofs.lemmas.List.{get_or_append_left, get_or_push, get_or-map, length_push, map_push, take_more_set}
 use Rattle.std.proofs.lemmas.Bool.{cases_lt, cases_eq, or_from, or_left, or_right, eq-eqb, ne_eqb}
 use Rattle.register.specs.Chains.{Kept, Spared, records_of, ends_of, meets, first_from, last_from, with_next, code}
-use Rattle.network.specs.Registers.{Given, Meaning, with_link, with_given}
+use Rattle.network.specs.Registers.{Given, with_link, with_given}
 use Rattle.register.specs.Memories.{given_of, meaning, no_chain}
 use Rattle.register.specs.declared.memory.LinkRecord.{LinkRecord}
 use Rattle.register.specs.declared.memory.Memory.{Memory}

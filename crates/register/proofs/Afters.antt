@@ -1,12 +1,10 @@
 -- The link that follows the one with a given mark, at a site of a register.
-use Rattle.std.proofs.Common.{◌≡◌, ℕ, zero, suc, ◌+◌, ◌<◌, ◌≤◌, Bool, true, false, cond, ◌&&◌, eqb, ◌⊎◌, List, [], ◌∷◌, map, length, get_or, take, drop, Some, None, Option, sym, refl, ap, ◌∙◌, subst, inl, inr, ⊎_elim, arith, length-take-le, drop-cons}
-use Rattle.std.specs.List.{AllByRecursion as All}
-use Rattle.std.proofs.ByRecursion.{all_from_every, All-map}
+use Rattle.std.proofs.Common.{◌≡◌, ℕ, zero, suc, ◌+◌, ◌<◌, ◌≤◌, true, false, cond, ◌&&◌, eqb, ◌⊎◌, List, [], ◌∷◌, map, length, get_or, take, drop, None, Option, sym, refl, ap, ◌∙◌, subst, ⊎_elim, arith, length-take-le, drop-cons}
 use Rattle.std.proofs.lemmas.List.{drop_all}
 use Rattle.std.proofs.lemmas.Bool.{cond-true, cond-false, and_left, and_right, and_from, or_from, or_left, or_right, eq-eqb, ne_eqb}
-use Rattle.register.specs.Chains.{Kept, Inside, Ones, Others, ends_of, meets, next_at, records_of}
+use Rattle.register.specs.Chains.{Kept, Ones, Others, ends_of, meets, next_at, records_of}
 use Rattle.network.specs.Links.{first, from, rest, after}
-use Rattle.network.specs.Registers.{Given, told, touches, links_from}
+use Rattle.network.specs.Registers.{told, links_from}
 use Rattle.network.proofs.Sound.{nowhere_told}
 use Rattle.register.specs.Validity.{ends_exist}
 use Rattle.register.specs.Memories.{given_of, meaning}

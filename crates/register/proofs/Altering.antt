@@ -1,13 +1,12 @@
 -- A register's memory after a link was struck or given another weight.
-use Rattle.std.proofs.Common.{◌≡◌, ℕ, zero, suc, ◌<◌, ◌≤◌, Bool, true, false, List, [], ◌∷◌, map, length, get_or, take, drop, set, sym, refl, ap, ◌∙◌, subst, le_of_suc-le-suc, not-suc-le-zero, arith, get_or-take, MutBor}
+use Rattle.std.proofs.Common.{◌≡◌, ℕ, zero, suc, ◌<◌, ◌≤◌, true, false, List, [], ◌∷◌, map, length, get_or, take, drop, set, sym, refl, ap, ◌∙◌, subst, le_of_suc-le-suc, not-suc-le-zero, arith, get_or-take, MutBor}
 use Rattle.std.proofs.lemmas.List.{drop-map}
 use Rattle.std.proofs.lemmas.Bool.{both_ways}
-use Rattle.register.specs.Chains.{struck_record, reweighed_record, Kept, Spared, Inside, Firsts, Lasts, Ones, Others, records_of, ends_of, first_from, last_from, code}
-use Rattle.network.specs.Registers.{Given, Meaning, with_given, altered, struck, reweighed, stands}
+use Rattle.register.specs.Chains.{struck_record, reweighed_record, Kept, Spared, Inside, Ones, Others, records_of, ends_of, first_from, last_from, code}
+use Rattle.network.specs.Registers.{Given, with_given, altered, struck, reweighed, stands}
 use Rattle.register.specs.Memories.{given_of, meaning}
 use Rattle.register.specs.declared.memory.LinkRecord.{LinkRecord}
 use Rattle.register.specs.declared.memory.Memory.{Memory}
-use Rattle.register.specs.declared.memory.SiteChain.{SiteChain}
 use Rattle.register.proofs.Adding.{same_meaning, given_size, given_count}
 use Rattle.network.proofs.Alterations.{length-altered, take-altered, drop-altered, set-altered, map-altered, map-altered_unseen, get_or-altered_unseen}
 use Rattle.register.proofs.Joins.{Side, one_side, other_side, Nexts}

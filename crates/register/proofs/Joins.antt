@@ -1,5 +1,5 @@
 -- A new link comes into the chains of its two sites.
-use Rattle.std.proofs.Common.{◌≡◌, ℕ, zero, suc, ◌+◌, ◌<◌, ◌≤◌, Bool, true, false, cond, eqb, ◌⊎◌, List, [], ◌∷◌, ◌++◌, map, length, get_or, drop, Some, None, Option, sym, refl, ap, ◌∙◌, subst, inl, inr, ⊎_elim, arith, length-append, length-drop}
+use Rattle.std.proofs.Common.{◌≡◌, ℕ, suc, ◌<◌, ◌≤◌, true, false, cond, eqb, List, [], ◌∷◌, ◌++◌, map, length, get_or, drop, Some, None, Option, sym, refl, ap, ◌∙◌, ⊎_elim, arith, length-drop}
 use lib.ListN.{length-map}
 use lib.Seq.{drop-append-le}
 use Rattle.std.proofs.lemmas.List.{drop_all, get_or_append_left, get_or_push, get_or-map, length_push, drop-map}
@@ -7,7 +7,7 @@ use Rattle.std.proofs.lemmas.Bool.{cases_lt, cases_eq, cond-true, cond-false, or
 use Rattle.register.specs.Chains.{ends_of, meets, first_from, last_from, or_else, with_next, pointed, code}
 use Rattle.register.specs.declared.memory.LinkRecord.{LinkRecord}
 use Rattle.network.proofs.Alterations.{length-altered, get_or-altered_same, get_or-altered_other}
-use Rattle.register.proofs.Firsts.{same_code, or_else_empty, or_else_there, first_push, Last, last_found, last_is}
+use Rattle.register.proofs.Firsts.{same_code, or_else_empty, or_else_there, first_push, last_found, last_is}
 
 -- one of the two sides of a record: an end, and the number that follows there
 pub record Side (V : Type 0) : Type 0 where

@@ -1,9 +1,7 @@
 -- Two registers over the same memory are the same: what they know of it has one proof at most.
-use Rattle.std.proofs.Common.{◌≡◌, ℕ, ◌<◌, ap, ◌∙◌, subst, arith}
+use Rattle.std.proofs.Common.{◌≡◌, ℕ, ◌<◌, ap, ◌∙◌, subst}
 use denote.Struct.Props.{props}
 use Rattle.register.specs.Chains.{Kept, Sized, Inside, Firsts, Lasts, Ones, Others, records_of}
-use Rattle.network.specs.Registers.{Valid}
-use Rattle.register.specs.Memories.{meaning}
 use Rattle.register.specs.declared.Register.{Register}
 use Rattle.register.specs.declared.memory.Memory.{Memory}
 

@@ -1,5 +1,5 @@
 -- A register without links.
-use Rattle.std.proofs.Common.{◌≡◌, ℕ, ◌<◌, ◌≤◌, Bool, true, false, cond, ltb, List, [], ◌∷◌, ◌++◌, map, length, get_or, take, drop, replicate, Some, None, Option, sym, refl, ap, ◌∙◌, subst, not-suc-le-zero, arith, length-append, length-drop}
+use Rattle.std.proofs.Common.{◌≡◌, ℕ, ◌<◌, ◌≤◌, Bool, true, false, cond, ltb, List, [], ◌++◌, map, length, get_or, take, drop, replicate, Some, None, Option, sym, refl, ap, ◌∙◌, subst, not-suc-le-zero, arith, length-append, length-drop}
 use lib.ListN.{length-replicate, get_or-replicate}
 use Rattle.std.proofs.lemmas.List.{get_or_append_left}
 use Rattle.std.proofs.lemmas.Bool.{ltb-false}
@@ -8,7 +8,6 @@ use Rattle.network.specs.Registers.{renewed}
 use Rattle.register.specs.Memories.{given_of, meaning, size_fault, fault_in, no_chain, MadeBy, Made}
 use Rattle.network.specs.Sizes.{over, short, or_then}
 use Rattle.network.specs.declared.fault.NetworkFault.{NetworkFault}
-use Rattle.register.specs.declared.memory.LinkRecord.{LinkRecord}
 use Rattle.register.specs.declared.memory.Memory.{Memory}
 use Rattle.register.specs.declared.memory.SiteChain.{SiteChain}
 

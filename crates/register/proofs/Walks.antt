@@ -1,14 +1,13 @@
 -- A walk along the chain of a site, which passes over the links that were struck.
-use Rattle.std.proofs.Common.{◌≡◌, ℕ, zero, suc, ◌-◌, ◌<◌, ◌≤◌, Bool, true, false, cond, ◌&&◌, eqb, ◌⊎◌, List, [], ◌∷◌, map, length, get_or, drop, Some, None, Option, sym, refl, ap, ◌∙◌, subst, inl, inr, ⊎_elim, arith, drop-cons}
-use Rattle.std.proofs.lemmas.List.{get_or_read}
+use Rattle.std.proofs.Common.{◌≡◌, ℕ, suc, ◌-◌, ◌<◌, ◌≤◌, true, false, ◌&&◌, eqb, List, [], ◌∷◌, map, length, get_or, drop, Some, None, Option, sym, refl, ap, ◌∙◌, subst, ⊎_elim, arith, drop-cons}
 use Rattle.std.proofs.lemmas.Bool.{cases_Bool, cond-true, cond-false, and_right, and_left, and_from, or_cases, both_ways, eqb-true}
-use Rattle.register.specs.Chains.{ends_of, meets, first_from, next_at, code, Ones, Others}
+use Rattle.register.specs.Chains.{ends_of, meets, first_from, next_at, Ones, Others}
 use Rattle.network.specs.Links.{first}
-use Rattle.network.specs.Registers.{told, touches, links_from}
+use Rattle.network.specs.Registers.{told, links_from}
 use Rattle.register.specs.Memories.{given_of}
 use Rattle.network.specs.declared.link.Link.{Link}
 use Rattle.register.specs.declared.memory.LinkRecord.{LinkRecord}
-use Rattle.register.proofs.Firsts.{same_code, Cut, cut, cond_some, cond_none}
+use Rattle.register.proofs.Firsts.{same_code, cut, cond_some, cond_none}
 
 -- the standing links at the site u from the number j on
 abbrev pub links_on : {V : Type 0} → List (LinkRecord V) → ℕ → ℕ → List (Link V)

@@ -1,5 +1,5 @@
 -- The memory of a register, what it means, and how it is made.
-use Rattle.std.specs.Prelude.{◌≡◌, ℕ, Bool, true, false, cond, List, [], ◌∷◌, ◌++◌, map, length, take, drop, replicate, Some, None, Option, Result}
+use Rattle.std.specs.Prelude.{◌≡◌, ℕ, false, List, ◌++◌, map, length, take, drop, replicate, Some, None, Option, Result}
 use Rattle.std.specs.Borrow.{MutBor}
 use Rattle.weight.specs.Algebra.{Algebra}
 use Rattle.network.specs.Registers.{Given, Meaning}

@@ -1,6 +1,6 @@
 -- Every register is valid, as a proof: nothing in this file has to be believed.
-use Rattle.std.specs.Prelude.{◌≡◌, ℕ, ◌≤◌, List, map, length, take}
-use Rattle.std.proofs.Common.{◌∙◌, arith, length-take}
+use Rattle.std.specs.Prelude.{ℕ, List, map}
+use Rattle.std.proofs.Common.{arith, length-take}
 use Rattle.std.proofs.lemmas.List.{length-map}
 use Rattle.std.proofs.ByRecursion.{All-map, all_from_every}
 use Rattle.std.specs.List.{AllByRecursion as All}

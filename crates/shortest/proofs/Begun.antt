@@ -1,10 +1,10 @@
 -- A search over lent places, whatever they hold, to the labels that it leaves.
-use Rattle.std.proofs.Common.{◌≡◌, ℕ, ◌+◌, ◌-◌, ◌<◌, ◌≤◌, cond, ltb, ◌⊎◌, List, ◌++◌, length, get_or, drop, Some, None, Option, sym, refl, ap, ◌∙◌, subst, ⊎_elim, arith}
+use Rattle.std.proofs.Common.{◌≡◌, ℕ, ◌+◌, ◌-◌, ◌<◌, ◌≤◌, ltb, List, length, get_or, drop, Some, None, Option, sym, ap, ◌∙◌, subst, ⊎_elim, arith}
 use Rattle.std.proofs.lemmas.List.{get_or_past}
 use Rattle.std.proofs.lemmas.Bool.{cond-true, lt-ltb}
 use Rattle.weight.specs.Algebra.{Algebra}
 use Rattle.network.specs.Graph.{Graph}
-use Rattle.shortest.specs.Places.{blank_place, label_at, place_of}
+use Rattle.shortest.specs.Places.{blank_place, label_at}
 use Rattle.shortest.specs.Queues.{State, InUse, Queued, settled_labels}
 use Rattle.shortest.specs.Finding.{Found}
 use Rattle.shortest.specs.Searches.{Searched, SearchedIn, label_in_order, place_order, order_of}

@@ -1,19 +1,18 @@
 -- The loop of a search, from its first label to its last.
-use Rattle.std.proofs.Common.{◌≡◌, ℕ, ◌+◌, ◌-◌, ◌<◌, ◌≤◌, Bool, true, false, cond, ◌⊎◌, List, [], ◌∷◌, ◌++◌, length, Some, None, Option, sym, refl, ap, ◌∙◌, subst, inl, inr, ⊎_elim, arith}
+use Rattle.std.proofs.Common.{◌≡◌, ℕ, ◌-◌, ◌<◌, true, false, List, [], ◌∷◌, ◌++◌, length, Option, sym, refl, ap, ◌∙◌, subst, inl, inr, ⊎_elim, arith}
 use mathlib.Core.List.Memᴰ
 use mathlib.Core.List.{Memᴰ}
 use Rattle.std.proofs.lemmas.List.{length_push}
 use Rattle.std.proofs.lemmas.Bool.{cases_Bool, cases_eq, cond-true, both_ways}
 use Rattle.std.specs.List.{ContainsAt as Has}
 use Rattle.weight.specs.Algebra.{Algebra, AtMost}
-use Rattle.network.specs.Graph as graph
 use Rattle.network.specs.Graph.{Graph}
 use Rattle.network.specs.Walks.{Below}
 use Rattle.network.proofs.Orders.{at_most_refl}
-use Rattle.shortest.specs.Finding.{source_label, Found}
+use Rattle.shortest.specs.Finding.{source_label}
 use Rattle.shortest.specs.Order.{sooner}
 use Rattle.shortest.specs.Progress.{Searching, nothing, links_of}
-use Rattle.shortest.specs.Queues.{State, Sound, Spared, Waits, Offering, Outcome, entered, lowered, left_waiting, left_settled, Settling, SettledOne, settled_of}
+use Rattle.shortest.specs.Queues.{State, Sound, Spared, Waits, Offering, Outcome, entered, lowered, left_waiting, left_settled, Settling, settled_of}
 use Rattle.shortest.specs.Searches.{OfferedBelow, Relaxed, Searched}
 use Rattle.shortest.specs.declared.waiting.Label.{Label}
 use Rattle.shortest.proofs.Relaxing.{spared_same, spared_on}

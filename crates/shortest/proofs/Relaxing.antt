@@ -1,5 +1,5 @@
 -- The links at the site of a settled label, looked at one by one.
-use Rattle.std.proofs.Common.{◌≡◌, ℕ, ◌<◌, ◌≤◌, Bool, true, false, ◌⊎◌, List, [], ◌∷◌, length, get_or, drop, Some, None, Option, sym, refl, ap, ◌∙◌, subst, inl, inr, ⊎_elim, arith}
+use Rattle.std.proofs.Common.{◌≡◌, ℕ, ◌<◌, List, ◌∷◌, length, drop, Some, None, Option, sym, refl, ap, ◌∙◌, subst, inl, inr, ⊎_elim}
 use mathlib.Core.List.{Memᴰ}
 use Rattle.std.proofs.lemmas.Bool.{cases_eq}
 use Rattle.std.specs.List.{ContainsAt as Has}
@@ -9,11 +9,10 @@ use Rattle.network.specs.Graph.{Graph, At}
 use Rattle.network.specs.Links.{first, after, left_at}
 use Rattle.network.specs.Walks.{Below}
 use Rattle.network.specs.declared.link.Link.{Link}
-use Rattle.network.proofs.Cursors.{Onward, onward_first, left_of_first, left_parts, onward_next, less_left, told_among}
+use Rattle.network.proofs.Cursors.{onward_first, left_of_first, left_parts, onward_next, less_left, told_among}
 use Rattle.network.proofs.Orders.{at_most_refl, at_most_from_less}
-use Rattle.shortest.specs.Progress.{Searching, nothing, links_of, led}
+use Rattle.shortest.specs.Progress.{Searching, links_of, led}
 use Rattle.shortest.specs.Queues.{State, Sound, Spared, Waits, Offering, Outcome, entered, lowered, left_waiting, left_settled, settled_of}
-use Rattle.shortest.specs.Queues as queues
 use Rattle.shortest.specs.Searches.{OfferedBelow, Relaxed}
 use Rattle.shortest.specs.declared.waiting.Label.{Label}
 use Rattle.shortest.proofs.Settled.{waiting_one}

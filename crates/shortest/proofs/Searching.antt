@@ -1,12 +1,12 @@
 -- How a search goes: what holds of its settled and its waiting labels, one step after another.
-use Rattle.std.proofs.Common.{◌≡◌, ℕ, zero, suc, ◌+◌, ◌<◌, ◌≤◌, Bool, true, false, ◌⊎◌, List, [], ◌∷◌, ◌++◌, length, get_or, take, Option, sym, refl, ap, ◌∙◌, subst, inl, inr, ⊎_elim, arith}
+use Rattle.std.proofs.Common.{◌≡◌, ℕ, zero, suc, ◌<◌, ◌≤◌, true, false, ◌⊎◌, List, [], ◌∷◌, ◌++◌, length, get_or, take, Option, sym, refl, ap, ◌∙◌, subst, inl, inr, ⊎_elim, arith}
 use mathlib.Core.List.Memᴰ
 use mathlib.Core.List.{Memᴰ}
 use Rattle.std.proofs.lemmas.List.{length_push, get_or_append_left, get_or_push, nil_from_length, take-append-le, take_at}
-use Rattle.std.proofs.lemmas.Bool.{cases_Bool, cases_eq, cases_lt}
+use Rattle.std.proofs.lemmas.Bool.{cases_Bool, cases_lt}
 use Rattle.weight.specs.Algebra.{Algebra, AtMost}
 use Rattle.network.specs.Graph.{Graph, At, Sound}
-use Rattle.network.specs.Walks.{Walk, total, Distance, Below}
+use Rattle.network.specs.Walks.{Walk, total, Below}
 use Rattle.network.specs.declared.link.Link.{Link}
 use Rattle.network.proofs.Closing.{labelled_on, walked_on}
 use Rattle.network.proofs.Orders.{at_most_refl, at_most_trans, at_most_from_less, at_most_plus, at_most_both, below_lower, zero_plus}

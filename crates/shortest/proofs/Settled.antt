@@ -1,12 +1,12 @@
 -- The settled labels of a queue: one for each settled place, and none twice.
-use Rattle.std.proofs.Common.{◌≡◌, ℕ, zero, suc, ◌+◌, ◌-◌, ◌<◌, ◌≤◌, ◌⊎◌, List, [], ◌∷◌, ◌++◌, length, get_or, Some, None, Option, sym, refl, ap, ◌∙◌, subst, inl, inr, ⊎_elim, arith}
+use Rattle.std.proofs.Common.{◌≡◌, ℕ, zero, suc, ◌-◌, ◌<◌, ◌≤◌, List, [], ◌∷◌, ◌++◌, length, get_or, Some, sym, refl, ap, ◌∙◌, inl, inr, ⊎_elim, arith}
 use mathlib.Core.List.Memᴰ
 use mathlib.Core.List.{Memᴰ}
 use Rattle.std.proofs.lemmas.List.{length_push, get_or_append_left, get_or_push}
 use Rattle.std.proofs.lemmas.Bool.{cases_lt}
 use Rattle.weight.specs.Algebra.{Algebra}
 use Rattle.shortest.specs.Places.{label_at, place_of}
-use Rattle.shortest.specs.Queues.{InUse, Linked, Queued, WaitsIn, listed, settled_labels}
+use Rattle.shortest.specs.Queues.{InUse, Queued, WaitsIn, listed, settled_labels}
 use Rattle.shortest.specs.declared.waiting.Label.{Label}
 use Rattle.shortest.specs.declared.waiting.Waiting.{Waiting}
 use Rattle.shortest.proofs.Edits.{some_inside}

@@ -1,4 +1,4 @@
-use Rattle.std.proofs.Common.{arith, rules}
+use Rattle.std.proofs.Common.{arith}
 use Rattle.filling.proofs.Noting.{none_noted, noted_more, all_noted, told_at}
 use Rattle.filling.proofs.rows.note_row.Goals as goal
 

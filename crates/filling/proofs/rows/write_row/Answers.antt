@@ -1,4 +1,4 @@
-use Rattle.std.proofs.Common.{◌≡◌, ◌<◌, length, sym, ap, ◌∙◌, arith, rules}
+use Rattle.std.proofs.Common.{◌≡◌, ◌<◌, length, ap, ◌∙◌, arith, rules}
 use Rattle.shortest.specs.Queues.{settled_labels}
 use Rattle.filling.specs.Rows.{rowed}
 use Rattle.filling.proofs.Rowed.{label_there, rowed_more}

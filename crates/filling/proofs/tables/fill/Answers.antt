@@ -1,7 +1,7 @@
-use Rattle.std.proofs.Common.{◌≡◌, ◌-◌, ◌++◌, length, drop, replicate, sym, refl, ap, ◌∙◌, subst, arith, rules}
+use Rattle.std.proofs.Common.{length, replicate, sym, refl, ap, ◌∙◌, subst, arith}
 use lib.ListN.{length-replicate}
 use Rattle.filling.specs.Places.{blank_row, blank_site, blank_entry}
-use Rattle.filling.specs.Tables.{Memory, memory, Fits, SizesFit}
+use Rattle.filling.specs.Tables.{memory, Fits, SizesFit}
 use Rattle.filling.proofs.Filling.{full, no_room, blank_again, waiting_blanked, spared_twice}
 use Rattle.filling.proofs.tables.fill.Goals as goal
 

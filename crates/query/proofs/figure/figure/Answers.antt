@@ -1,7 +1,7 @@
-use Rattle.std.proofs.Common.{◌≡◌, ◌<◌, length, sym, ◌∙◌, subst, arith, rules}
+use Rattle.std.proofs.Common.{◌<◌, length, sym, subst, arith, rules}
 use Rattle.query.specs.Figures.{AskedRight}
 use Rattle.query.specs.Hubs.{HubTold}
-use Rattle.query.proofs.Asking.{same_site, apart_right}
+use Rattle.query.proofs.Asking.{apart_right}
 use Rattle.query.proofs.figure.figure.Goals as goal
 
 pub returns-then-not-fit : goal.returns-then-not-fit

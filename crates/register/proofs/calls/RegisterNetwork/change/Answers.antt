@@ -1,4 +1,4 @@
-use Rattle.std.proofs.Common.{sym, subst, rules}
+use Rattle.std.proofs.Common.{sym, subst}
 use Rattle.network.specs.Registers.{rule}
 use Rattle.register.specs.Memories.{meaning}
 use Rattle.network.specs.Rulings.{Follows}

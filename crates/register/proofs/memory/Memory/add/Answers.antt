@@ -1,4 +1,4 @@
-use Rattle.std.proofs.Common.{◌≡◌, ◌+◌, ◌<◌, length, sym, ◌∙◌, subst, arith, rules}
+use Rattle.std.proofs.Common.{◌+◌, ◌<◌, length, sym, ◌∙◌, subst, arith, rules}
 use Rattle.register.proofs.Adding.{Added, counted, added, last_inside, site_inside, second_last_inside, second_inside, one_joined, two_joined}
 use Rattle.register.proofs.Sites.{Appended}
 use Rattle.register.proofs.memory.Memory.add.Goals as goal
