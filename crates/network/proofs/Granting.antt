@@ -3,7 +3,7 @@ use Rattle.std.proofs.Common.{◌≡◌, ℕ, zero, suc, ◌<◌, ◌≤◌, Boo
 use Rattle.std.proofs.ByRecursion.{All-push}
 use Rattle.std.proofs.lemmas.List.{length_push}
 use Rattle.std.proofs.lemmas.Bool.{cond-true, cond-false, le-leb, lt-leb, le-ltb, leb-false}
-use Rattle.std.specs.List.{AllByRecursion as All}
+use Rattle.std.specs.List.{AllByRecursion}
 use Rattle.weight.specs.Algebra.{Algebra}
 use Rattle.network.specs.Registers.{Given, Meaning, Valid, altered, struck, reweighed, stands, with_link, with_given, link_rule, strike_rule, reweigh_rule, rule}
 use Rattle.network.specs.Rulings.{Ruling, refuse, grant, Follows}
@@ -56,7 +56,7 @@ not_refused_else false fault r answer m e = let z : ◌≡◌ {A = ℕ} 0 1 = cc
 same_granted : {M : Type 0} (a b : ℕ) (m n : M) → grant a m ≡ grant b n → m ≡ n
 same_granted a b m n e = cc
 
-all_altered : {X : Type 0} (P : X → Type 0) (f : X → X) → ((x : X) → P x → P (f x)) → (n : ℕ) (xs : List X) → All P xs → All P (altered f n xs)
+all_altered : {X : Type 0} (P : X → Type 0) (f : X → X) → ((x : X) → P x → P (f x)) → (n : ℕ) (xs : List X) → AllByRecursion P xs → AllByRecursion P (altered f n xs)
 all_altered P f h n [] a = tt
 all_altered P f h zero (x ∷ xs) a = (h x a.0, a.1)
 all_altered P f h (suc n) (x ∷ xs) a = (a.0, all_altered P f h n xs a.1)

@@ -2,7 +2,7 @@
 use Rattle.std.proofs.Common.{◌≡◌, ℕ, zero, suc, ◌+◌, ◌<◌, ◌≤◌, true, false, cond, ◌&&◌, eqb, ◌⊎◌, List, [], ◌∷◌, length, sym, refl, ap, ◌∙◌, subst, inl, inr, ⊎_elim, arith}
 use mathlib.Core.List.Memᴰ
 use mathlib.Core.List.{Memᴰ}
-use Rattle.std.specs.List.{AllByRecursion as All}
+use Rattle.std.specs.List.{AllByRecursion}
 use Rattle.std.proofs.lemmas.Bool.{cases_Bool, cond-true, cond-false, and_parts, and_from, and_right, or_from, or_cases, or_left, or_right, both_ways, eqb-true, eqb-false, eq-eqb, ne_eqb}
 use Rattle.network.specs.Graph.{Sound, At, back}
 use Rattle.network.specs.Links.{Absent, Apart}
@@ -11,7 +11,7 @@ use Rattle.network.specs.declared.link.Link.{Link}
 
 -- ---- sites that do not exist
 
-pub nowhere_told : {V : Type 0} (sites u i : ℕ) (xs : List (Given V)) → sites ≤ u → All (Ended sites) xs → links_from u i xs ≡ []
+pub nowhere_told : {V : Type 0} (sites u i : ℕ) (xs : List (Given V)) → sites ≤ u → AllByRecursion (Ended sites) xs → links_from u i xs ≡ []
 nowhere_told sites u i [] out h = refl
 nowhere_told sites u i (x ∷ xs) out h =
     let e = h.0 in
@@ -36,7 +36,7 @@ placed_below [] n x p = absurd p
 placed_below (z ∷ zs) zero x p = omega arith
 placed_below (z ∷ zs) (suc n) x p = let more = placed_below zs n x p in omega arith
 
-placed_all : {X : Type 0} (P : X → Type 0) (xs : List X) (n : ℕ) (x : X) → Placed xs n x → All P xs → P x
+placed_all : {X : Type 0} (P : X → Type 0) (xs : List X) (n : ℕ) (x : X) → Placed xs n x → AllByRecursion P xs → P x
 placed_all P [] n x p a = absurd p
 placed_all P (z ∷ zs) zero x p a = subst P p a.0
 placed_all P (z ∷ zs) (suc n) x p a = placed_all P zs n x p a.1

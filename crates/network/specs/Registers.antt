@@ -1,6 +1,6 @@
 -- A register: links that were given numbers, told at a site by ascending number.
 use Rattle.std.specs.Prelude.{ℕ, zero, suc, ◌<◌, ◌≤◌, Bool, true, false, cond, ◌&&◌, ◌||◌, List, [], ◌∷◌, ◌++◌, length, ◌==◌, nat_le, nat_lt}
-use Rattle.std.specs.List.{AllByRecursion as All}
+use Rattle.std.specs.List.{AllByRecursion}
 use Rattle.weight.specs.Algebra.{Algebra}
 use Rattle.network.specs.Graph.{Graph}
 use Rattle.network.specs.Rulings.{Ruling, refuse, grant}
@@ -52,7 +52,7 @@ pub record Valid {V : Type 0} (m : Meaning V) : Type 0 where
   pub few_sites : m.sites ≤ 4096
   pub few_places : m.places ≤ 16384
   pub few : length m.given ≤ m.places
-  pub ends : All (Ended m.sites) m.given
+  pub ends : AllByRecursion (Ended m.sites) m.given
 
 -- ---- its changes
 

@@ -3,7 +3,7 @@ use Rattle.std.specs.Prelude.{ℕ, List, map}
 use Rattle.std.proofs.Common.{arith, length-take}
 use Rattle.std.proofs.lemmas.List.{length-map}
 use Rattle.std.proofs.ByRecursion.{All-map, all_from_every}
-use Rattle.std.specs.List.{AllByRecursion as All}
+use Rattle.std.specs.List.{AllByRecursion}
 use Rattle.network.proofs.Granting.{stays}
 use Rattle.network.proofs.Sound.{sound}
 use Rattle.network.specs.Registers.{Ended, Valid, graph, rule}
@@ -14,7 +14,7 @@ use Rattle.register.specs.Memories.{given_of, meaning}
 use Rattle.register.specs.declared.Register.{Register}
 use Rattle.register.specs.declared.memory.LinkRecord.{LinkRecord}
 
-pub ends_exist : {V : Type 0} (sites : ℕ) (rs : List (LinkRecord V)) → Inside sites rs → All (Ended sites) (map given_of rs)
+pub ends_exist : {V : Type 0} (sites : ℕ) (rs : List (LinkRecord V)) → Inside sites rs → AllByRecursion (Ended sites) (map given_of rs)
 ends_exist sites rs h = All-map (Ended sites) given_of rs (all_from_every (λ r. Ended sites (given_of r)) rs (λ k d _ lt. h k d lt))
 
 pub valid : {V : Type 0} (x : Register V) → Valid (meaning x.memory)
