@@ -12,8 +12,8 @@ import re
 import sys
 
 NAME = r"[A-Za-z][\w'-]*"
-# An error of the index has the camel case name already.
-OTHER = {'No-room': 'LacksRoom'}
+# An error of the index has the camel case name NoRoom already; the port script made Goes_on of Goes-on.
+OTHER = {'No-room': 'LacksRoom', 'Goes_on': 'GoesOn'}
 LIST = ('length', 'take', 'drop', 'map', 'set', 'total')
 TOKEN = re.compile(r"(?<![\w'-])" + NAME)
 
@@ -87,6 +87,7 @@ def main():
     own = set().union(*map(defined, antt.values()))
     everywhere = set().union(*(TOKEN.findall('\n'.join(map(code, text.split('\n')))) for text in antt.values()))
     turned = {name: respelled(name) for name in own if respelled(name) != name}
+    turned.update(OTHER)
     for name, new in sorted(turned.items()):
         if new in everywhere:
             print(f'look: {name}: {new} stands already')

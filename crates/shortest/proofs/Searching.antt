@@ -10,7 +10,7 @@ use Rattle.network.specs.Walks.{Walk, total, Below}
 use Rattle.network.specs.declared.link.Link.{Link}
 use Rattle.network.proofs.Closing.{labelled_on, walked_on}
 use Rattle.network.proofs.Orders.{at_most_refl, at_most_trans, at_most_from_less, at_most_plus, at_most_both, below_lower, zero_plus}
-use Rattle.shortest.specs.Finding.{source_label, Goes_on, Found}
+use Rattle.shortest.specs.Finding.{source_label, GoesOn, Found}
 use Rattle.shortest.specs.Progress.{Reached, Covered, Searching, nothing, links_of, led}
 use Rattle.shortest.specs.declared.waiting.Label.{Label}
 
@@ -157,34 +157,34 @@ module _ {V : Type 0} (k : Algebra V) (g : Graph V) (source : ℕ) (cut : Option
           ⊎_elim
           (λ (p : (0 < length xs) × (get_or (xs ++ x ∷ []) 0 d ≡ get_or xs 0 d)). p.1 ∙ s.first d p.0)
           (λ (p : (0 ≡ length xs) × (get_or (xs ++ x ∷ []) 0 d ≡ x)).
-          p.1 ∙ ⊎_elim (λ (c : Goes_on k g xs x). absurd (nowhere p.0 c)) (λ (e : (xs ≡ []) × (x ≡ source_label k source)). e.1) (s.coming x waits))
+          p.1 ∙ ⊎_elim (λ (c : GoesOn k g xs x). absurd (nowhere p.0 c)) (λ (e : (xs ≡ []) × (x ≡ source_label k source)). e.1) (s.coming x waits))
           (at_end d 0 lt);
       others = λ j d pos inside.
           ⊎_elim
           (λ (p : (j < length xs) × (get_or (xs ++ x ∷ []) j d ≡ get_or xs j d)).
-          subst (λ t. Goes_on k g (take j (xs ++ x ∷ [])) t) (sym p.1) (subst (λ t. Goes_on k g t (get_or xs j d)) (sym (take-append-le j xs (x ∷ []) (omega (arith, p.0)))) (s.others j d pos p.0)))
+          subst (λ t. GoesOn k g (take j (xs ++ x ∷ [])) t) (sym p.1) (subst (λ t. GoesOn k g t (get_or xs j d)) (sym (take-append-le j xs (x ∷ []) (omega (arith, p.0)))) (s.others j d pos p.0)))
           (λ (p : (j ≡ length xs) × (get_or (xs ++ x ∷ []) j d ≡ x)).
-          subst (λ t. Goes_on k g (take j (xs ++ x ∷ [])) t) (sym p.1) (subst (λ t. Goes_on k g t x) (sym (take_at xs (x ∷ []) j (sym p.0)))
-          (⊎_elim (λ (c : Goes_on k g xs x). c) (λ (e : (xs ≡ []) × (x ≡ source_label k source)). absurd (empty_too j pos p.0 e.0)) (s.coming x waits))))
+          subst (λ t. GoesOn k g (take j (xs ++ x ∷ [])) t) (sym p.1) (subst (λ t. GoesOn k g t x) (sym (take_at xs (x ∷ []) j (sym p.0)))
+          (⊎_elim (λ (c : GoesOn k g xs x). c) (λ (e : (xs ≡ []) × (x ≡ source_label k source)). absurd (empty_too j pos p.0 e.0)) (s.coming x waits))))
           (at_end d j inside);
       coming = λ y w.
           ⊎_elim
-          (λ (c : Goes_on k g xs y). inl (goes_on_later c))
+          (λ (c : GoesOn k g xs y). inl (goes_on_later c))
           (λ (e : (xs ≡ []) × (y ≡ source_label k source)).
           ⊎_elim
-          (λ (c : Goes_on k g xs x). absurd (nowhere (sym (ap length e.0)) c))
+          (λ (c : GoesOn k g xs x). absurd (nowhere (sym (ap length e.0)) c))
           (λ (f : (xs ≡ []) × (x ≡ source_label k source)). absurd (apart y w (ap (λ t. t.site) (e.1 ∙ sym f.1))))
           (s.coming x waits))
           (s.coming y (others y w));
     }
       where
-        nowhere : {y : Label V} → 0 ≡ length xs → Goes_on k g xs y → ⊥
+        nowhere : {y : Label V} → 0 ≡ length xs → GoesOn k g xs y → ⊥
         nowhere e c = Memᴰ.not-nil (subst (Memᴰ c.from) (nil_from_length xs (sym e)) c.among)
 
         empty_too : (j : ℕ) → 0 < j → j ≡ length xs → xs ≡ [] → ⊥
         empty_too j pos e none = omega (arith, ap length none)
 
-        goes_on_later : {y : Label V} → Goes_on k g xs y → Goes_on k g (xs ++ x ∷ []) y
+        goes_on_later : {y : Label V} → GoesOn k g xs y → GoesOn k g (xs ++ x ∷ []) y
         goes_on_later c = record { from = c.from; among = Memᴰ.append_left (x ∷ []) c.among; is_before = c.is_before; link = c.link; there = c.there; mark = c.mark; far = c.far; sum = c.sum }
 
   -- ---- one link is looked at
@@ -248,7 +248,7 @@ module _ {V : Type 0} (k : Algebra V) (g : Graph V) (source : ℕ) (cut : Option
         coming = λ y w.
             ⊎_elim
             (λ (o : W y). s.coming y o)
-            (λ (e : y ≡ led k x l). inl (subst (Goes_on k g xs) (sym e) led_comes))
+            (λ (e : y ≡ led k x l). inl (subst (GoesOn k g xs) (sym e) led_comes))
             (t.after y w);
       }
         where
@@ -258,7 +258,7 @@ module _ {V : Type 0} (k : Algebra V) (g : Graph V) (source : ℕ) (cut : Option
               let on = walked_on k g source x.site r.walk l r.joins there (sound.far_exists x.site l there) in
               record { walk = r.walk ++ l ∷ []; joins = on.0; totals = on.1 ∙ ap (λ d. k.plus d l.weight) r.totals; below = below }
 
-          led_comes : Goes_on k g xs (led k x l)
+          led_comes : GoesOn k g xs (led k x l)
           led_comes = record { from = x; among = among; is_before = refl; link = l; there = there; mark = refl; far = refl; sum = refl }
 
           led_covered : Covered k xs W' l.far (k.plus x.distance l.weight)

@@ -13,7 +13,7 @@ source_label k source = record { site = source; distance = k.zero; before = sour
 
 -- The label x goes on from one of the labels xs: a link with its mark stands between the two sites, and its
 -- distance is that of the site before and the link's weight, added.
-pub record Goes_on {V : Type 0} (k : Algebra V) (g : Graph V) (xs : List (Label V)) (x : Label V) : Type 0 where
+pub record GoesOn {V : Type 0} (k : Algebra V) (g : Graph V) (xs : List (Label V)) (x : Label V) : Type 0 where
   pub from : Label V
   pub among : Memᴰ from xs
   pub is_before : from.site ≡ x.before
@@ -34,4 +34,4 @@ pub record Found {V : Type 0} (k : Algebra V) (g : Graph V) (source : ℕ) (cut 
   pub rising : (i j : ℕ) (d : Label V) → i < j → j < length xs → AtMost k (get_or xs i d).distance (get_or xs j d).distance
   -- the first is the source, and each other goes on from an earlier one
   pub first : (d : Label V) → 0 < length xs → slice_index_or xs 0 d ≡ source_label k source
-  pub others : (j : ℕ) (d : Label V) → 0 < j → j < length xs → Goes_on k g (take j xs) (slice_index_or xs j d)
+  pub others : (j : ℕ) (d : Label V) → 0 < j → j < length xs → GoesOn k g (take j xs) (slice_index_or xs j d)

@@ -5,7 +5,7 @@ use Rattle.weight.specs.Algebra.{Algebra, AtMost}
 use Rattle.network.specs.Graph.{Graph, At}
 use Rattle.network.specs.Walks.{Walk, total, Below}
 use Rattle.network.specs.declared.link.Link.{Link}
-use Rattle.shortest.specs.Finding.{source_label, Goes_on}
+use Rattle.shortest.specs.Finding.{source_label, GoesOn}
 use Rattle.shortest.specs.declared.waiting.Label.{Label}
 
 -- a walk from the source has the label's distance as its total, and this is below the limit
@@ -31,8 +31,8 @@ pub record Searching {V : Type 0} (k : Algebra V) (g : Graph V) (source : ℕ) (
   pub rising : (i j : ℕ) (d : Label V) → i < j → j < length xs → AtMost k (get_or xs i d).distance (get_or xs j d).distance
   pub begun : Below k k.zero cut → Covered k xs W source k.zero
   pub first : (d : Label V) → 0 < length xs → slice_index_or xs 0 d ≡ source_label k source
-  pub others : (j : ℕ) (d : Label V) → 0 < j → j < length xs → Goes_on k g (take j xs) (slice_index_or xs j d)
-  pub coming : (x : Label V) → W x → Goes_on k g xs x ⊎ ((xs ≡ []) × (x ≡ source_label k source))
+  pub others : (j : ℕ) (d : Label V) → 0 < j → j < length xs → GoesOn k g (take j xs) (slice_index_or xs j d)
+  pub coming : (x : Label V) → W x → GoesOn k g xs x ⊎ ((xs ≡ []) × (x ≡ source_label k source))
 
 -- no link has still to be looked at
 abbrev pub nothing : {V : Type 0} → Label V → Link V → Type 0
