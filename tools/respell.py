@@ -104,15 +104,15 @@ def main():
         def turn(m):
             return names.get(m.group(0), m.group(0))
 
+        def has_names(line):
+            if path.endswith('.rt'):
+                return re.match(r'\s*(ghost|requires|ensures)\b', line)
+            return ': goal.' not in line
+
         new = '\n'.join(
-            line if ': goal.' in line else TOKEN.sub(turn, line)
+            TOKEN.sub(turn, line) if has_names(line) else line
             for line in text.split('\n')
         )
-        if path.endswith('.rt'):
-            new = '\n'.join(
-                TOKEN.sub(turn, line) if re.match(r'\s*(ghost|requires|ensures)\b', line) else line
-                for line in text.split('\n')
-            )
         if new != text:
             open(path, 'w', encoding='utf-8').write(new)
     print(f'{len(turned)} names respelled')
