@@ -1,26 +1,29 @@
--- The search for a byte that should be zero and is not, one place on.
-use Rattle.std.proofs.Common.{◌≡◌, ℕ, suc, ◌+◌, ◌<◌, ◌≤◌, true, false, cond, not, ◌&&◌, eqb, List, length, get_or, drop, Some, None, sym, ap, ◌∙◌, add-one}
+-- The lowest place of a byte that should be zero and is not.
+use Rattle.std.proofs.Common.{◌≡◌, ℕ, zero, suc, ◌<◌, ◌≤◌, Bool, true, false, not, ◌&&◌, eqb, List, length, get_or, drop, Some, None, Option, refl, add-one, arith}
+use Rattle.std.specs.Option.{MatchOption}
 use Rattle.std.proofs.lemmas.List.{drop_more, drop_all}
-use Rattle.std.proofs.lemmas.Bool.{and_from, cond-true, cond-false, ne_eqb, not_from_false, and_left, and_right, not_from_true, eq-eqb}
+use Rattle.std.proofs.lemmas.Bool.{cond-true, cond-false}
 use Rattle.callfile.specs.Records.{unused, offending}
 
-module _ (n place : ℕ) (bytes : List ℕ) (before : offending n 0 bytes ≡ offending n place (drop place bytes)) where
-  pub none_offends : length bytes ≤ place → None ≡ offending n 0 bytes
-  none_offends ge = sym (before ∙ ap (offending n place) (drop_all place bytes ge))
+module _ (n : ℕ) (bytes : List ℕ) where
+  -- the byte at the place should be zero and is not
+  abbrev pub offends : ℕ → Bool
+  offends place = unused n place && not (eqb (get_or bytes place 0) 0)
 
-  module _ (lt : place < length bytes) where
-    split : offending n place (drop place bytes) ≡ cond (unused n place && not (eqb (get_or bytes place 0) 0)) (Some place) (offending n (suc place) (drop (place + 1) bytes))
-    split = ap (offending n place) (drop_more bytes place 0 lt)
+  passed_over : (place : ℕ) → place ≤ length bytes → ((k : ℕ) → k < place → offends k ≡ false) → offending n 0 bytes ≡ offending n place (drop place bytes)
+  passed_over zero le none = refl
+  passed_over (suc place) le none =
+      let before = passed_over place (omega arith) (λ k lt. none k (omega arith)) in
+      let step = drop_more bytes place 0 (omega arith) in
+      let here = none place (omega arith) in
+      rw (before, step, cond-false _ _ _ here, add-one)
 
-    pub offends_here : unused n place ≡ true → (get_or bytes place 0 ≡ 0 → ⊥) → Some place ≡ offending n 0 bytes
-    offends_here u ne =
-        sym (before ∙ split ∙ cond-true _ _ _ (and_from (unused n place) _ u (not_from_false _ (ne_eqb (get_or bytes place 0) 0 ne))))
-
-    pub goes_on : (unused n place && not (eqb (get_or bytes place 0) 0)) ≡ false → offending n 0 bytes ≡ offending n (place + 1) (drop (place + 1) bytes)
-    goes_on h = before ∙ split ∙ cond-false _ _ _ h ∙ ap (λ p. offending n p (drop (place + 1) bytes)) (sym (add-one place))
-
-    pub used_here : unused n place ≡ false → offending n 0 bytes ≡ offending n (place + 1) (drop (place + 1) bytes)
-    used_here h = goes_on (and_left (unused n place) _ h)
-
-    pub zero_here : get_or bytes place 0 ≡ 0 → offending n 0 bytes ≡ offending n (place + 1) (drop (place + 1) bytes)
-    zero_here h = goes_on (and_right (unused n place) _ (not_from_true _ (eq-eqb (get_or bytes place 0) 0 h)))
+  pub first_offending : (r : Option ℕ) → length bytes ≡ 16
+      → MatchOption r ((k : ℕ) → 0 ≤ k → k < 16 → offends k ≡ false) (λ i. (0 ≤ i) × (i < 16) × (offends i ≡ true) × ((k : ℕ) → 0 ≤ k → k < i → offends k ≡ false))
+      → r ≡ offending n 0 bytes
+  first_offending None long none =
+      let before = passed_over (length bytes) (omega arith) (λ k lt. none k (omega arith) (omega arith)) in
+      rw (before, drop_all (length bytes) bytes (omega arith))
+  first_offending (Some i) long h =
+      let before = passed_over i (omega arith) (λ k lt. h.3 k (omega arith) lt) in
+      rw (before, drop_more bytes i 0 (omega arith), cond-true _ _ _ h.2)

@@ -1,4 +1,5 @@
 pub mod Faults
 pub mod Records
+pub mod Kinds
 pub mod Lines
 pub mod Running

@@ -5,18 +5,24 @@ use Rattle.callfile.specs.declared.fault.ReaderFault.{ReaderFault}
 use Rattle.callfile.specs.declared.fault.ReaderFault.TheVariants.{Partial}
 use Rattle.callfile.specs.declared.line.Answer.{Answer}
 use Rattle.callfile.specs.declared.line.Line.{Line}
-use Rattle.callfile.specs.declared.line.Line.TheVariants.{Granted, Refused}
+
+-- what a call answers that answers one number: the second value is 0
+abbrev pub answer_of : ℕ → Answer
+answer_of n = record { value = n; second = 0 }
+
+-- what stands behind the record's number: the answer, or the refusal
+abbrev pub told : Result Answer ReaderFault → List ℕ
+told (Ok answer) = codes " ok " ++ (decimal answer.value ++ (codes " " ++ decimal answer.second))
+told (Err fault) = codes " refused " ++ (decimal (layer fault) ++ (codes " " ++ (decimal (number fault) ++ (codes " " ++ decimal (detail fault)))))
 
 -- base-ten numbers, with single spaces
 abbrev pub text : Line → List ℕ
-text (Granted record' answer) = decimal record' ++ (codes " ok " ++ (decimal answer.value ++ (codes " " ++ decimal answer.second)))
-text (Refused record' fault) = decimal record' ++ (codes " refused " ++ (decimal (layer fault) ++ (codes " " ++ (decimal (number fault) ++ (codes " " ++ decimal (detail fault))))))
+text line = decimal line.number ++ told line.result
 
 -- the line of a record's number and result
 abbrev pub line_of : ℕ → Result Answer ReaderFault → Line
-line_of n (Ok answer) = Granted n answer
-line_of n (Err fault) = Refused n fault
+line_of n r = record { number = n; result = r }
 
 -- what is printed at the end of the file, of so many bytes that are left over
 abbrev pub closing : ℕ → ℕ → Option Line
-closing n left = cond (left == 0) None (Some (Refused n (Partial left)))
+closing n left = cond (left == 0) None (Some (line_of n (Err (Partial left))))

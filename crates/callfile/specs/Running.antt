@@ -5,13 +5,14 @@ use Rattle.weight.specs.declared.delay.Delay.{Delay}
 use Rattle.network.specs.Registers.{Meaning, graph, rule, renewed}
 use Rattle.network.specs.Sizes.{or_then, over}
 use Rattle.network.specs.declared.fault.NetworkFault.{NetworkFault}
+use Rattle.network.specs.declared.fault.NetworkFault.TheVariants.{TooLarge}
 use Rattle.register.specs.Memories.{size_fault}
 use Rattle.network.specs.declared.changes.RegisterChange.TheVariants as change
 use Rattle.index.specs.Books.{BookState, fault_in, fresh}
 use Rattle.index.specs.Calls.{Ruling, refuse, grant, Follows, Changed, Named, Unnamed}
 use Rattle.index.specs.declared.fault.IndexFault.{IndexFault}
 use Rattle.index.specs.declared.fault.IndexFault.TheVariants.{Network}
-use Rattle.callfile.specs.Lines.{line_of}
+use Rattle.callfile.specs.Lines.{answer_of, line_of}
 use Rattle.callfile.specs.Records.{reading}
 use Rattle.callfile.specs.declared.call.Call.{Call}
 use Rattle.callfile.specs.declared.call.Call.TheVariants.{New, Link, Strike, Reweigh, Name, Unname}
@@ -29,7 +30,7 @@ within_network (Some fault) = Some (Network fault)
 
 abbrev pub start_fault : ℕ → Meaning Delay → BookState Delay → Option IndexFault
 start_fault sites m b =
-    or_then (within_network (over 256 sites))
+    or_then (within_network (over TooLarge 256 sites))
     (or_then (within_network (size_fault sites m.site_room 1024 m.link_room)) (fault_in b sites 8 2048))
 
 -- a new index has so many sites, 1,024 link places, 8 hub places and 2,048 entry places, no links, no hubs and no build
@@ -39,7 +40,7 @@ starting (Some fault) sites m b = refuse fault
 
 -- what a call that answers one number gives: the second value is 0
 abbrev pub answered : Result ℕ IndexFault → Result Answer IndexFault
-answered (Ok n) = Ok (record { value = n; second = 0 })
+answered (Ok n) = Ok (answer_of n)
 answered (Err fault) = Err fault
 
 -- the result comes of a result of one number that the relation allows

@@ -4,16 +4,18 @@
 ghost use Rattle.std.specs.Prelude.{◌≤◌, length, IfOk};
 
 use callfile::line::closing_line;
-use callfile::running::{ENTRY_PLACES, HUB_PLACES, LINK_PLACES, run_record};
-use index::book::Book;
-use index::book::tables::{Entry, RowPlace, SitePlace};
+use callfile::running::{ENTRY_PLACES, HUB_PLACES, Index, LINK_PLACES};
+use index::book::making::BookSizes;
+use index::book::{Book, Entry, RowPlace, SitePlace};
 use register::Register;
+use register::making::RegisterSizes;
 use register::memory::{LinkRecord, SiteChain};
 use std::io;
 use std::io::{BufReader, BufWriter, Read, Write};
 use weight::delay::Delay;
 
-// Reads on until the buffer is full or the input ends, and answers how many bytes came.
+// Reads on until the buffer is full or the input ends, and answers how many bytes came. The library's `read_exact` does not
+// say how many came before the end.
 fn fill<R: Read>(input: &mut R, buffer: &mut [u8]) -> io::Result<usize>
     ensures { IfOk result (λ n. n ≤ length buffer.old) }
 {
@@ -29,22 +31,33 @@ fn fill<R: Read>(input: &mut R, buffer: &mut [u8]) -> io::Result<usize>
 }
 
 fn main(rt: HostRuntime) -> io::Result<()> {
-    let mut chains = [SiteChain::blank(); 256];
-    let mut records = [LinkRecord::<Delay>::blank(); 1024];
-    let mut site_places = [SitePlace::<Delay>::blank(); 256];
+    let mut chains = [SiteChain::default(); 256];
+    let mut records = [LinkRecord::<Delay>::default(); 1024];
+    let mut site_places = [SitePlace::<Delay>::default(); 256];
     let mut hub_list = [None; 8];
-    let mut rows = [RowPlace::<Delay>::blank(); 2048];
-    let mut entries = [Entry::<Delay>::blank(); 2048];
-    let mut register = Register::new(0, LINK_PLACES, &mut chains, &mut records);
-    let mut book = Book::new(
-        0,
-        HUB_PLACES,
-        ENTRY_PLACES,
-        &mut site_places,
-        &mut hub_list,
-        &mut rows,
-        &mut entries,
-    );
+    let mut rows = [RowPlace::<Delay>::default(); 2048];
+    let mut entries = [Entry::<Delay>::default(); 2048];
+    let mut index = Index {
+        register: Register::new(
+            RegisterSizes {
+                sites: 0,
+                places: LINK_PLACES,
+            },
+            &mut chains,
+            &mut records,
+        ),
+        book: Book::new(
+            BookSizes {
+                sites: 0,
+                hub_places: HUB_PLACES,
+                entry_places: ENTRY_PLACES,
+            },
+            &mut site_places,
+            &mut hub_list,
+            &mut rows,
+            &mut entries,
+        ),
+    };
     let mut input = BufReader::new(rt.alloc(), rt.stdin())?;
     let mut out = BufWriter::new(rt.alloc(), rt.stdout())?;
     let mut record = [0u8; 16];
@@ -56,7 +69,7 @@ fn main(rt: HostRuntime) -> io::Result<()> {
             }
             break;
         }
-        let line = run_record(&mut register, &mut book, number, &record);
+        let line = index.run_record(number, &record);
         writeln!(out, "{line}")?;
     }
     out.flush()

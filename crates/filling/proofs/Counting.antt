@@ -1,6 +1,6 @@
 -- How many entries balls have is settled by the network and its hubs alone.
-use Rattle.std.proofs.Common.{◌≡◌, ℕ, zero, suc, ◌+◌, ◌<◌, ◌≤◌, ◌⊎◌, List, length, get_or, Option, sym, ap, ◌∙◌, subst, inl, inr, ⊎_elim, arith}
-use Rattle.std.proofs.lemmas.Bool.{cases_lt}
+use Rattle.std.proofs.Common.{◌≡◌, ℕ, zero, suc, ◌<◌, ◌≤◌, ◌⊎◌, List, length, get_or, Option, sym, ◌∙◌, subst, inl, inr, ⊎_elim, arith}
+use Rattle.std.proofs.lemmas.Bool.{cases_lt, cases_order}
 use Rattle.weight.specs.Algebra.{Algebra}
 use Rattle.network.specs.Graph.{Graph}
 use Rattle.network.specs.Walks.{Below}
@@ -28,7 +28,7 @@ module _ {V : Type 0} (k : Algebra V) (g : Graph V) (v : ℕ) (cut : Option V) w
         let there = h.distances y (at_place ys j source lt) in
         let x = f.whole y.site there.0.walk there.0.joins (subst (λ (d : V). Below k d cut) (sym there.0.totals) there.1) in
         let at = mem_place x.0 xs x.1 in
-        (at.0, at.1, ap (λ (z : Label V). z.site) (at.2 source) ∙ x.2)
+        (at.0, at.1, cc (at.2 source, x.2))
 
     -- the place of the j-th site, where there is a j-th site
     abbrev Spot : ℕ → Type 0
@@ -47,30 +47,32 @@ module _ {V : Type 0} (k : Algebra V) (g : Graph V) (v : ℕ) (cut : Option V) w
 
     no_clash : (i j : ℕ) → i < j → j < length ys → number i (spot i) ≡ number j (spot j) → ⊥
     no_clash i j less lt e =
-        h.once i j source less lt
-        (sym (placed_by i (omega arith) (spot i)).1 ∙ ap (λ n. (get_or xs n source).site) e ∙ (placed_by j lt (spot j)).1)
+        h.once i j source less lt (cc ((placed_by i (omega arith) (spot i)).1, (placed_by j lt (spot j)).1))
 
-    pub no_more : length ys ≤ length xs
+    no_two : (i j : ℕ) → i < length ys → j < length ys → number i (spot i) ≡ number j (spot j) → i ≡ j
+    no_two i j li lj e =
+        ⊎_elim (λ (same : i ≡ j). same)
+        (λ o. ⊎_elim (λ (less : i < j). absurd (no_clash i j less lj e)) (λ (less : j < i). absurd (no_clash j i less li (sym e))) o)
+        (cases_order i j)
+
+    no_more : length ys ≤ length xs
     no_more =
         ⊎_elim
         (λ (few : length xs < length ys).
-        absurd (crowded (length xs) (λ j. number j (spot j)) (λ j le. (placed_by j (omega arith) (spot j)).0) (λ i j li lj e.
-        ⊎_elim (λ (less : i < j). absurd (no_clash i j less (omega arith) e))
-        (λ (ge : j ≤ i). ⊎_elim (λ (less : j < i). absurd (no_clash j i less (omega arith) (sym e))) (λ (le : i ≤ j). omega arith) (cases_lt j i))
-        (cases_lt i j))))
+        absurd (crowded (length xs) (λ j. number j (spot j)) (λ j le. (placed_by j (omega arith) (spot j)).0) (λ i j li lj e. no_two i j (omega arith) (omega arith) e)))
         (λ (le : length ys ≤ length xs). le)
         (cases_lt (length xs) (length ys))
 
-  pub as_many : (xs ys : List (Label V)) → Found k g v cut xs → Found k g v cut ys → length xs ≡ length ys
+  as_many : (xs ys : List (Label V)) → Found k g v cut xs → Found k g v cut ys → length xs ≡ length ys
   as_many xs ys f h = let le = no_more xs ys f h in let ge = no_more ys xs h f in omega arith
 
 module _ {V : Type 0} (k : Algebra V) (g : Graph V) (hubs : List ℕ) where
-  pub one_count : (v m n : ℕ) → Balls k g hubs v m → Balls k g hubs v n → m ≡ n
+  one_count : (v m n : ℕ) → Balls k g hubs v m → Balls k g hubs v n → m ≡ n
   one_count zero m n p q = p ∙ sym q
   one_count (suc v) m n p q =
       let near : p.1 ≡ q.1 = one_radius k g hubs v p.1 q.1 p.4.radius q.4.radius in
       let few : length p.2 ≡ length q.2 = as_many k g v (radius_of q.1) p.2 q.2 (subst (λ (o : Option (ℕ × V)). Found k g v (radius_of o) p.2) near p.4.sites) q.4.sites in
-      p.5 ∙ ap (λ i. i + length p.2) (one_count v p.0 q.0 p.3 q.3) ∙ ap (λ i. q.0 + i) few ∙ sym q.5
+      omega (arith, p.5, q.5, one_count v p.0 q.0 p.3 q.3)
 
   -- more sites have no fewer entries
   pub more_entries : (w v m n : ℕ) → Balls k g hubs v m → Balls k g hubs w n → v ≤ w → m ≤ n

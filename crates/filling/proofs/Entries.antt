@@ -1,14 +1,14 @@
 -- The entries of a ball: the settled labels of a search, written in their order.
-use Rattle.std.proofs.Common.{◌≡◌, ℕ, ◌+◌, ◌-◌, ◌<◌, ◌≤◌, ltb, List, length, get_or, take, drop, set, Some, None, Option, sym, refl, ap, ◌∙◌, subst, ⊎_elim, arith, length-set}
+use Rattle.std.proofs.Common.{◌≡◌, ℕ, ◌+◌, ◌-◌, ◌<◌, ◌≤◌, List, length, get_or, take, drop, set, Some, None, Option, sym, ap, ◌∙◌, subst, ⊎_elim, arith, length-set}
 use borrow.Rule.Slice.PartMut.{put_mid, mid_len}
 use Rattle.std.proofs.lemmas.List.{get_or_default, get_or-set_same, get_or-set_other, get_or-take, length-take-le}
-use Rattle.std.proofs.lemmas.Bool.{cases_lt, cond-true, lt-ltb}
+use Rattle.std.proofs.lemmas.Bool.{cases_lt}
+use Rattle.std.proofs.lemmas.Bool.Decides.{nat_tests}
 use Rattle.weight.specs.Algebra.{Algebra}
 use Rattle.network.specs.Graph.{Graph}
 use Rattle.shortest.specs.Finding.{source_label}
-use Rattle.shortest.specs.Places.{label_at}
 use Rattle.shortest.specs.Queues.{settled_labels}
-use Rattle.shortest.specs.Searches.{SearchedIn, label_in_order, place_order, order_of}
+use Rattle.shortest.specs.Searches.{SearchedIn, label_in_order, order_of}
 use Rattle.shortest.specs.declared.waiting.Label.{Label}
 use Rattle.shortest.specs.declared.waiting.Waiting.{Waiting}
 use Rattle.shortest.proofs.Settled.{mem_place}
@@ -25,39 +25,30 @@ pub record Writing {V : Type 0} (first : ℕ) (ws : List (Waiting V)) (sites : �
   pub taken : (j : ℕ) (d : Entry V) → j < n → get_or part' j d ≡ entry_or first ws sites (label_in_order ws sites j) (get_or part j d)
   pub later : (j : ℕ) (d : Entry V) → n ≤ j → get_or part' j d ≡ get_or part j d
 
-module _ {V : Type 0} (first : ℕ) (ws : List (Waiting V)) (sites : ℕ) (part : List (Entry V)) where
-  pub none_written : Writing first ws sites part 0 part
-  none_written = record { size = refl; taken = λ j d lt. absurd (omega arith); later = λ j d le. refl }
+module _ {V : Type 0} {first : ℕ} {ws : List (Waiting V)} {sites : ℕ} {part : List (Entry V)} {n : ℕ} {part' : List (Entry V)} (w : Writing first ws sites part n part') where
+  pub one_skipped : None ≡ label_in_order ws sites n → Writing first ws sites part (n + 1) part'
+  one_skipped none = record {
+    size = w.size;
+    taken = λ j d lt.
+        ⊎_elim
+        (λ (low : j < n). w.taken j d low)
+        (λ (high : n ≤ j). let same : j ≡ n = omega arith in rw same (w.later n d (omega arith) ∙ ap (λ o. entry_or first ws sites o (get_or part n d)) none))
+        (cases_lt j n);
+    later = λ j d le. w.later j d (omega arith);
+  }
 
-  pub all_written : (part' : List (Entry V)) (n : ℕ) → length part ≤ n → Writing first ws sites part n part' → Written first ws sites part part'
-  all_written part' n all w = record { size = w.size; each = λ j d lt. w.taken j d (omega arith) }
-
-  module _ (n : ℕ) (part' : List (Entry V)) (w : Writing first ws sites part n part') where
-    pub one_skipped : None ≡ label_in_order ws sites n → Writing first ws sites part (n + 1) part'
-    one_skipped none = record {
-      size = w.size;
-      taken = λ j d lt.
-          ⊎_elim
-          (λ (low : j < n). w.taken j d low)
-          (λ (high : n ≤ j).
-          w.later j d high ∙ ap (λ o. entry_or first ws sites o (get_or part j d)) (none ∙ ap (label_in_order ws sites) (omega arith)))
-          (cases_lt j n);
-      later = λ j d le. w.later j d (omega arith);
-    }
-
-    pub one_written : (x : Label V) (e : Entry V) → n < length part → Some x ≡ label_in_order ws sites n → e ≡ entry_of first ws sites x → Writing first ws sites part (n + 1) (set part' n e)
-    one_written x e inside some is = record {
-      size = length-set part' n e ∙ w.size;
-      taken = λ j d lt.
-          ⊎_elim
-          (λ (low : j < n). get_or-set_other part' n j e d (λ same. omega arith) ∙ w.taken j d low)
-          (λ (high : n ≤ j).
-          let same : n ≡ j = omega arith in
-          subst (λ i. get_or (set part' n e) i d ≡ entry_or first ws sites (label_in_order ws sites i) (get_or part i d)) same
-          (get_or-set_same part' n e d (omega (arith, w.size)) ∙ is ∙ ap (λ o. entry_or first ws sites o (get_or part n d)) some))
-          (cases_lt j n);
-      later = λ j d le. get_or-set_other part' n j e d (λ same. omega arith) ∙ w.later j d (omega arith);
-    }
+  pub one_written : {x : Label V} {e : Entry V} → n < length part → Some x ≡ label_in_order ws sites n → e ≡ entry_of first ws sites x → Writing first ws sites part (n + 1) (set part' n e)
+  one_written {x = x} {e = e} inside some is = record {
+    size = length-set part' n e ∙ w.size;
+    taken = λ j d lt.
+        ⊎_elim
+        (λ (low : j < n). get_or-set_other part' n j e d (λ same. omega arith) ∙ w.taken j d low)
+        (λ (high : n ≤ j).
+        let same : j ≡ n = omega arith in
+        rw same (get_or-set_same part' n e d (omega (arith, w.size)) ∙ is ∙ ap (λ o. entry_or first ws sites o (get_or part n d)) some))
+        (cases_lt j n);
+    later = λ j d le. get_or-set_other part' n j e d (λ same. omega arith) ∙ w.later j d (omega arith);
+  }
 
 -- ---- what a search left, as entries
 
@@ -67,14 +58,11 @@ module _ {V : Type 0} (k : Algebra V) (g : Graph V) (v : ℕ) (radius : Option V
 
   settled_entry : (j : ℕ) (d : Label V) (e : Entry V) → j < n → entry_or first ws' g.sites (label_in_order ws' g.sites j) e ≡ entry_of first ws' g.sites (get_or xs j d)
   settled_entry j d e lt =
-      ap (λ o. entry_or first ws' g.sites o e)
-      (cond-true (ltb j g.sites) (label_at ws' (g.sites - 1 - j)) None (lt-ltb j g.sites (omega (arith, s.few))) ∙ s.labels j lt d)
+      let there : label_in_order ws' g.sites j ≡ Some (get_or xs j d) = grind (arith, nat_tests, s.few, s.labels j lt d) in
+      ap (λ o. entry_or first ws' g.sites o e) there
 
   order_there : (i : ℕ) (d : Label V) → i < n → order_of ws' g.sites (get_or xs i d).site ≡ Some i
-  order_there i d lt =
-      ap (place_order g.sites) (s.placed i lt d)
-      ∙ cond-true (ltb (g.sites - 1 - i) g.sites) (Some (g.sites - 1 - (g.sites - 1 - i))) None (lt-ltb (g.sites - 1 - i) g.sites (omega (arith, s.few)))
-      ∙ ap (λ m. Some m) (omega (arith, s.few))
+  order_there i d lt = let at = s.placed i lt d in grind (arith, nat_tests, s.few)
 
   -- the entry of a label whose site before has the i-th label
   before_is : (i j : ℕ) (d : Label V) → i < n → (get_or xs i d).site ≡ (get_or xs j d).before → (entry_of first ws' g.sites (get_or xs j d)).before ≡ first + i

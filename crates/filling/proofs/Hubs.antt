@@ -25,11 +25,15 @@ use Rattle.filling.proofs.Rowed.{length-rowed, row_of_hub}
 not_below : (m n : ℕ) → (m < n → ⊥) → n ≤ m
 not_below m n not = ⊎_elim (λ (lt : m < n). absurd (not lt)) (λ (le : n ≤ m). le) (cases_lt m n)
 
-module _ {V : Type 0} (k : Algebra V) (g : Graph V) where
+-- no walk leads away from a site that does not exist
+nowhere : {V : Type 0} {g : Graph V} → Sound g → (h : ℕ) → g.sites ≤ h → (v : ℕ) → Unjoined g h v
+nowhere sound h past v [] w = omega (arith, w.1)
+nowhere sound h past v (l ∷ ls) w = Memᴰ.not-nil (subst (Memᴰ l) (sound.nowhere_else h past) w.0)
+
+module _ {V : Type 0} {k : Algebra V} {g : Graph V} where
   -- the labels that a search settled are of sites of the graph
-  pub labels_within : (source : ℕ) (cut : Option V) (before : List (Waiting V)) (n : ℕ) (after : List (Waiting V)) → SearchedIn k g source cut before n after
-      → (sites m : ℕ) → sites ≡ g.sites → m ≡ g.sites → Within after sites n m
-  labels_within source cut before n after done sites m e same =
+  pub labels_within : {source n sites m : ℕ} {cut : Option V} {before after : List (Waiting V)} → SearchedIn k g source cut before n after → sites ≡ g.sites → m ≡ g.sites → Within after sites n m
+  labels_within {source = source} {n = n} {m = m} {after = after} done e same =
       subst (λ (s : ℕ). Within after s n m) (sym e) (
         done.few,
         (λ i x lt is.
@@ -42,25 +46,19 @@ module _ {V : Type 0} (k : Algebra V) (g : Graph V) where
       )
 
   module _ (sound : Sound g) where
-    -- no walk leads away from a site that does not exist
-    nowhere : (h : ℕ) → g.sites ≤ h → (v : ℕ) → Unjoined g h v
-    nowhere h past v [] w = omega (arith, w.1)
-    nowhere h past v (l ∷ ls) w = Memᴰ.not-nil (subst (Memᴰ l) (sound.nowhere_else h past) w.0)
-
     found_nothing : (h : ℕ) → g.sites ≤ h → Found k g h None []
     found_nothing h past = record {
       distances = λ x m. absurd (Memᴰ.not-nil m);
-      whole = λ v ls w _. absurd (nowhere h past v ls w);
+      whole = λ v ls w _. absurd (nowhere sound h past v ls w);
       once = λ i j d lt inside _. absurd (omega arith);
       rising = λ i j d lt inside. absurd (omega arith);
       first = λ d inside. absurd (omega arith);
       others = λ j d lt inside. absurd (omega arith);
     }
 
-    module _ (h : ℕ) (row row' : List (RowPlace V)) (places places' : List (SitePlace V)) (ws ws' : List (Waiting V)) where
-      row_filled : row ≡ replicate g.sites blank_row → length places ≡ g.sites → Spared g.sites ws ws' → (xs : List (Label V)) → Found k g h None xs → row' ≡ rowed xs row
-          → Noted k h row' places places' → RowFilled k g h row row' places places' ws ws'
-      row_filled blank size spared xs found is noted =
+    module _ {h : ℕ} {row row' : List (RowPlace V)} {places places' : List (SitePlace V)} (blank : row ≡ replicate g.sites blank_row) (size : length places ≡ g.sites) (noted : Noted k h row' places places') where
+      row_filled : {ws ws' : List (Waiting V)} → Spared g.sites ws ws' → {xs : List (Label V)} → Found k g h None xs → row' ≡ rowed xs row → RowFilled k g h row row' places places' ws ws'
+      row_filled spared {xs = xs} found is =
           let stands : HubStands k g row' 0 h = row_of_hub k g h xs row' found (is ∙ ap (rowed xs) blank) in
           record {
             row_size = ap length is ∙ length-rowed xs row;
@@ -75,15 +73,11 @@ module _ {V : Type 0} (k : Algebra V) (g : Graph V) where
           }
 
       -- the search from the hub found the labels that were written
-      pub row_searched : row ≡ replicate g.sites blank_row → length places ≡ g.sites → (n sites : ℕ) → SearchedIn k g h None ws n ws' → sites ≡ g.sites
-          → (written : List (RowPlace V)) → row' ≡ written → written ≡ rowed (settled_labels ws' sites n) row → Noted k h row' places places' → RowFilled k g h row row' places places' ws ws'
-      row_searched blank size n sites done same written is wrote noted =
-          row_filled blank size (record { size = done.size; beyond = done.beyond }) (settled_labels ws' g.sites n) done.found
-          (is ∙ wrote ∙ ap (λ m. rowed (settled_labels ws' m n) row) same) noted
+      pub row_searched : {ws ws' : List (Waiting V)} {n sites : ℕ} {written : List (RowPlace V)} → SearchedIn k g h None ws n ws' → sites ≡ g.sites → row' ≡ written → written ≡ rowed (settled_labels ws' sites n) row → RowFilled k g h row row' places places' ws ws'
+      row_searched {ws' = ws'} {n = n} done same is wrote =
+          row_filled (record { size = done.size; beyond = done.beyond }) done.found (is ∙ wrote ∙ ap (λ m. rowed (settled_labels ws' m n) row) same)
 
       -- there was no search, since the hub does not exist
-      pub row_left : row ≡ replicate g.sites blank_row → length places ≡ g.sites → g.sites ≤ length ws → (h < g.sites → g.sites ≤ length ws → ⊥) × (ws' ≡ ws)
-          → row' ≡ row → Noted k h row' places places' → RowFilled k g h row row' places places' ws ws'
-      row_left blank size room not is noted =
-          row_filled blank size (record { size = ap length not.1; beyond = ap (drop g.sites) not.1 }) []
-          (found_nothing h (not_below h g.sites (λ lt. not.0 lt room))) is noted
+      pub row_left : {ws ws' : List (Waiting V)} → g.sites ≤ length ws → (h < g.sites → g.sites ≤ length ws → ⊥) × (ws' ≡ ws) → row' ≡ row → RowFilled k g h row row' places places' ws ws'
+      row_left room not is =
+          row_filled (record { size = ap length not.1; beyond = ap (drop g.sites) not.1 }) (found_nothing h (not_below h g.sites (λ lt. not.0 lt room))) is

@@ -2,7 +2,8 @@
 use Rattle.std.proofs.Common.{◌≡◌, ℕ, ◌+◌, ◌<◌, ◌≤◌, Bool, true, false, cond, ltb, List, [], ◌∷◌, ◌++◌, length, get_or, set, Some, None, Option, sym, refl, ap, ◌∙◌, subst, ⊎_elim, arith}
 use mathlib.Core.List.{Memᴰ}
 use Rattle.std.proofs.lemmas.List.{length-set, get_or-set_same, get_or-set_other, get_or_default}
-use Rattle.std.proofs.lemmas.Bool.{cases_eq, cond-true, cond-false, ltb-true, ltb-false, true≢false}
+use Rattle.std.proofs.lemmas.Bool.{cases_eq, cond-true, cond-false}
+use Rattle.std.proofs.lemmas.Bool.Decides.{nat_tests}
 use Rattle.weight.specs.Algebra.{Algebra}
 use Rattle.network.specs.Graph.{Graph, Sound}
 use Rattle.network.specs.Walks.{Distance, Unjoined}
@@ -10,7 +11,7 @@ use Rattle.network.proofs.Orders.{at_most_from_less}
 use Rattle.oracle.specs.Radius.{Radius, Nearest, radius_of, hub_of}
 use Rattle.oracle.proofs.Distances.{distance_turned, unjoined_turned}
 use Rattle.oracle.proofs.Nearer.{unreached_hub, first_hub, hub_stays, hub_comes}
-use Rattle.filling.specs.Rows.{closer, nearer, Noted}
+use Rattle.filling.specs.Rows.{closer, nearer}
 use Rattle.shortest.specs.Finding.{Found}
 use Rattle.shortest.specs.declared.waiting.Label.{Label}
 use Rattle.filling.specs.Places.{blank_row}
@@ -20,38 +21,31 @@ use Rattle.filling.specs.declared.places.SitePlace.{SitePlace}
 
 -- ---- the loop
 
-module _ {V : Type 0} (k : Algebra V) (h : ℕ) (row : List (RowPlace V)) (places : List (SitePlace V)) where
-  -- the sites below i were told
-  pub record Noting (i : ℕ) (now : List (SitePlace V)) : Type 0 where
-    pub size : length now ≡ length places
-    pub done : (v : ℕ) (d : SitePlace V) (e : RowPlace V) → v < i → v < length places → get_or now v d ≡ nearer k h (get_or row v e).distance (get_or places v d)
-    pub ahead : (v : ℕ) (d : SitePlace V) → i ≤ v → get_or now v d ≡ get_or places v d
+-- the sites below i were told
+pub record Noting {V : Type 0} (k : Algebra V) (h : ℕ) (row : List (RowPlace V)) (places : List (SitePlace V)) (i : ℕ) (now : List (SitePlace V)) : Type 0 where
+  pub size : length now ≡ length places
+  pub done : (v : ℕ) (d : SitePlace V) (e : RowPlace V) → v < i → v < length places → get_or now v d ≡ nearer k h (get_or row v e).distance (get_or places v d)
+  pub ahead : (v : ℕ) (d : SitePlace V) → i ≤ v → get_or now v d ≡ get_or places v d
 
-  pub none_noted : Noting 0 places
-  none_noted = record { size = refl; done = λ v d e lt _. absurd (omega arith); ahead = λ v d le. refl }
-
-  -- one more site was told
-  pub noted_more : (i : ℕ) (now : List (SitePlace V)) → Noting i now → i < length now → (p : SitePlace V) → ((d : SitePlace V) (e : RowPlace V) → p ≡ nearer k h (get_or row i e).distance (get_or now i d)) → Noting (i + 1) (set now i p)
-  noted_more i now so_far lt p is = record {
+module _ {V : Type 0} {k : Algebra V} {h : ℕ} {row : List (RowPlace V)} {places : List (SitePlace V)} where
+  -- one more site was told, by what was read of its place and of the row
+  pub noted_more : {i : ℕ} {now : List (SitePlace V)} → Noting k h row places i now → i < length row → i < length now → {p : SitePlace V} (c : SitePlace V) (b : RowPlace V) → p ≡ nearer k h (get_or row i b).distance (get_or now i c) → Noting k h row places (i + 1) (set now i p)
+  noted_more {i = i} {now = now} so_far in_row lt {p = p} c b told = record {
     size = length-set now i p ∙ so_far.size;
     done = λ v d e below inside.
         ⊎_elim
         (λ (same : v ≡ i).
         subst (λ (u : ℕ). get_or (set now i p) u d ≡ nearer k h (get_or row u e).distance (get_or places u d)) (sym same)
-        (get_or-set_same now i p d lt ∙ is d e ∙ ap (nearer k h (get_or row i e).distance) (so_far.ahead i d (omega arith))))
+        (get_or-set_same now i p d lt ∙ read d e ∙ ap (nearer k h (get_or row i e).distance) (so_far.ahead i d (omega arith))))
         (λ (ne : v ≡ i → ⊥). get_or-set_other now i v p d ne ∙ so_far.done v d e (omega (arith, below, ne)) inside)
         (cases_eq v i);
     ahead = λ v d le. get_or-set_other now i v p d (λ same. omega arith) ∙ so_far.ahead v d (omega arith);
   }
-
-  pub all_noted : (i : ℕ) (now : List (SitePlace V)) → Noting i now → length places ≤ i → Noted k h row places now
-  all_noted i now so_far le = record { size = so_far.size; each = λ v d e lt. so_far.done v d e (omega arith) lt }
-
--- what a site is told, read with any default
-pub told_at : {V : Type 0} (k : Algebra V) (h : ℕ) (row : List (RowPlace V)) (now : List (SitePlace V)) (i : ℕ) (q : SitePlace V) → i < length row → i < length now → (p : SitePlace V) (b : RowPlace V)
-    → p ≡ get_or now i p → q ≡ nearer k h (get_or row i b).distance p → (d : SitePlace V) (e : RowPlace V) → q ≡ nearer k h (get_or row i e).distance (get_or now i d)
-told_at k h row now i q lr ln p b is told d e =
-    told ∙ ap (λ (x : RowPlace _). nearer k h x.distance p) (get_or_default row i b e lr) ∙ ap (nearer k h (get_or row i e).distance) (is ∙ get_or_default now i p d ln)
+    where
+      read : (d : SitePlace V) (e : RowPlace V) → p ≡ nearer k h (get_or row i e).distance (get_or now i d)
+      read d e =
+          told ∙ ap (λ (x : RowPlace V). nearer k h x.distance (get_or now i c)) (get_or_default row i b e in_row)
+          ∙ ap (nearer k h (get_or row i e).distance) (get_or_default now i c d lt)
 
 -- ---- the hub of a site
 
@@ -68,23 +62,16 @@ module _ {V : Type 0} (k : Algebra V) (g : Graph V) (hs : List ℕ) (v h : ℕ) 
 
     module _ (old : ℕ) (r : V) (near : Nearest k g hs v old r) (radius : p.radius ≡ Some r) (hub : p.hub ≡ Some old) where
       tested : closer k d h p.radius p.hub ≡ cond (k.less d r) true (cond (k.less r d) false (ltb h old))
-      tested = ap (λ o. closer k d h o p.hub) radius ∙ ap (closer k d h (Some r)) hub
+      tested = rw (radius, hub) refl
 
       stays : closer k d h p.radius p.hub ≡ false → Nearest k g more v old r → Told k g more v (nearer k h (Some d) p)
       stays f n = subst (Told k g more v) (sym (cond-false (closer k d h p.radius p.hub) new p f)) (record { near = Some (old, r); is = n; radius = radius; hub = hub })
 
-      not_tied : (x y : V) → k.less x y ≡ true → x ≡ y → ⊥
-      not_tied x y lt same = true≢false (sym lt ∙ ap (k.less x) (sym same) ∙ k.irrefl x)
-
-      tied : (a b : Bool) (c : Bool) → k.less d r ≡ a → k.less r d ≡ b → ltb h old ≡ c → Told k g more v (nearer k h (Some d) p)
-      tied true b c da rb hc = comes (tested ∙ cond-true (k.less d r) true _ da) (hub_comes k g hs v h d at old r near (at_most_from_less k d r da) (λ same. absurd (not_tied d r da same)))
-      tied false true c da rb hc =
-          stays (tested ∙ cond-false (k.less d r) true _ da ∙ cond-true (k.less r d) false _ rb) (hub_stays k g hs v h d at old r near da (λ same. absurd (not_tied r d rb (sym same))))
-      tied false false true da rb hc =
-          comes (tested ∙ cond-false (k.less d r) true _ da ∙ cond-false (k.less r d) false _ rb ∙ hc)
-          (hub_comes k g hs v h d at old r near rb (λ same. let lt : h < old = ltb-true h old hc in omega arith))
-      tied false false false da rb hc =
-          stays (tested ∙ cond-false (k.less d r) true _ da ∙ cond-false (k.less r d) false _ rb ∙ hc) (hub_stays k g hs v h d at old r near da (λ same. ltb-false h old hc))
+      tied : (a b c : Bool) → k.less d r ≡ a → k.less r d ≡ b → ltb h old ≡ c → Told k g more v (nearer k h (Some d) p)
+      tied true b c da rb hc = comes (tested ∙ grind (arith, nat_tests)) (hub_comes k g hs v h d at old r near (at_most_from_less k d r da) (λ same. grind (arith, k.irrefl)))
+      tied false true c da rb hc = stays (tested ∙ grind (arith, nat_tests)) (hub_stays k g hs v h d at old r near da (λ same. grind (arith, k.irrefl)))
+      tied false false true da rb hc = comes (tested ∙ grind (arith, nat_tests)) (hub_comes k g hs v h d at old r near rb (λ same. grind (arith, nat_tests)))
+      tied false false false da rb hc = stays (tested ∙ grind (arith, nat_tests)) (hub_stays k g hs v h d at old r near da (λ same. grind (arith, nat_tests)))
 
     reached : (near : Option (ℕ × V)) → Radius k g hs v near → p.radius ≡ radius_of near → p.hub ≡ hub_of near → Told k g more v (nearer k h (Some d) p)
     reached None is radius hub = comes (ap (λ o. closer k d h o p.hub) radius) (first_hub k g hs v h d at is)

@@ -27,12 +27,12 @@ module _ {V : Type 0} where
   rowed_append (x ∷ xs) ys row = rowed_append xs ys (set row x.site (row_place x))
 
   -- one more settled label, where there is one
-  module _ (ws : List (Waiting V)) (sites i : ℕ) (inside : i < sites) (o : Option (Label V)) (is : o ≡ label_in_order ws sites i) where
+  module _ (ws : List (Waiting V)) (sites i : ℕ) (inside : i < sites) {o : Option (Label V)} (is : o ≡ label_in_order ws sites i) where
     pub label_there : label_at ws (sites - 1 - i) ≡ o
     label_there = sym (is ∙ cond-true (ltb i sites) (label_at ws (sites - 1 - i)) None (lt-ltb i sites inside))
 
-    pub rowed_more : (start row : List (RowPlace V)) → row ≡ rowed (settled_labels ws sites i) start → rowed (listed o) row ≡ rowed (settled_labels ws sites (i + 1)) start
-    rowed_more start row so_far =
+    pub rowed_more : (start : List (RowPlace V)) {row : List (RowPlace V)} → row ≡ rowed (settled_labels ws sites i) start → rowed (listed o) row ≡ rowed (settled_labels ws sites (i + 1)) start
+    rowed_more start so_far =
         ap (rowed (listed o)) so_far ∙ sym (rowed_append (settled_labels ws sites i) (listed o) start)
         ∙ ap (λ p. rowed (settled_labels ws sites i ++ listed p) start) (sym label_there) ∙ ap (λ n. rowed (settled_labels ws sites n) start) (sym (add-one i))
 

@@ -10,6 +10,8 @@ use Rattle.filling.specs.Rows.{Spared}
 use Rattle.filling.specs.Standing.{Balls, Entered, Told, SiteStands, LacksRoom}
 use Rattle.filling.specs.declared.places.Entry.{Entry}
 use Rattle.filling.specs.declared.places.SitePlace.{SitePlace}
+use Rattle.filling.specs.declared.tables.Unfilled.{Unfilled}
+use Rattle.filling.specs.declared.tables.Unfilled.TheVariants.{NoRoom, Misfit}
 
 -- ---- one ball
 
@@ -61,11 +63,12 @@ pub record AllLaid {V : Type 0} (k : Algebra V) (g : Graph V) (hubs : List ℕ) 
   pub room : n ≤ length entries
   pub later : (i : ℕ) (d : Entry V) → n ≤ i → slice_index_or entries' i d ≡ slice_index_or entries i d
 
-abbrev pub Outcome : {V : Type 0} → Algebra V → Graph V → List ℕ → Result ℕ ℕ → List (SitePlace V) → List (Entry V) → List (Entry V) → Type 0
+abbrev pub Outcome : {V : Type 0} → Algebra V → Graph V → List ℕ → Result ℕ Unfilled → List (SitePlace V) → List (Entry V) → List (Entry V) → Type 0
 Outcome k g hubs (Ok n) places' entries entries' = AllLaid k g hubs n places' entries entries'
-Outcome k g hubs (Err v) places' entries entries' = LacksRoom k g hubs (length entries) v
+Outcome k g hubs (Err (NoRoom v)) places' entries entries' = LacksRoom k g hubs (length entries) v
+Outcome k g hubs (Err Misfit) places' entries entries' = ⊥
 
-pub record BallsFilled {V : Type 0} (k : Algebra V) (g : Graph V) (places : List (SitePlace V)) (r : Result ℕ ℕ) (places' : List (SitePlace V)) (entries entries' : List (Entry V)) (ws ws' : List (Waiting V)) : Type 0 where
+pub record BallsFilled {V : Type 0} (k : Algebra V) (g : Graph V) (places : List (SitePlace V)) (r : Result ℕ Unfilled) (places' : List (SitePlace V)) (entries entries' : List (Entry V)) (ws ws' : List (Waiting V)) : Type 0 where
   pub place_size : length places' ≡ length places
   pub entry_size : length entries' ≡ length entries
   pub spared : Spared g.sites ws ws'

@@ -23,6 +23,13 @@ pub record Memory (V : Type 0) : Type 0 where
 abbrev pub memory : {V : Type 0} → List (Option ℕ) → List (SitePlace V) → List (RowPlace V) → List (Entry V) → List (Waiting V) → Memory V
 memory hs ss rs es ws = record { hub_list = hs; site_places = ss; rows = rs; entries = es; waiting = ws }
 
+-- Places of these lengths are for so many sites: one for each, and a row of them for each hub place; nothing is over its largest.
+pub record PlacesFit (sites hub_places site_places rows : ℕ) : Type 0 where
+  pub few_sites : sites ≤ 4096
+  pub few_hubs : hub_places ≤ 64
+  pub one_each : site_places ≡ sites
+  pub row_each : rows ≡ hub_places * sites
+
 -- These lengths of hub list, site places, rows, entries and waiting places fit so many sites: a place for each, a row for each hub place,
 -- no fewer waiting places than sites, and nothing is over its largest.
 pub record SizesFit (sites hub_places site_places rows entries waiting : ℕ) : Type 0 where

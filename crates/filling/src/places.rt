@@ -4,9 +4,12 @@ ghost use Rattle.std.specs.Prelude.{◌≡◌};
 
 use weight::Weight;
 
-// What a standing build tells of a site: its radius and its hub, both none where no hub is in reach,
+// Each place's blank value is written out and not derived, since its contract names it.
+
+// What a standing build tells of a site: its radius and its hub, both none where no hub is in reach (each absent by itself,
+// a rule of the project),
 // and which part of the entries is its ball.
-#[derive(Clone, Copy)]
+#[derive(Clone, Copy, Debug, PartialEq, Eq)]
 pub struct SitePlace<W> {
     pub radius: Option<W>,
     pub hub: Option<u32>,
@@ -14,8 +17,9 @@ pub struct SitePlace<W> {
     pub count: u32,
 }
 
-// One site in a hub's row: its distance from the hub, the site before it on a shortest walk, and the mark between.
-#[derive(Clone, Copy)]
+// One site in a hub's row: its distance from the hub, the site before it on a shortest walk, and the mark between; a rule
+// of the project has zeros beside a distance that is none.
+#[derive(Clone, Copy, Debug, PartialEq, Eq)]
 pub struct RowPlace<W> {
     pub distance: Option<W>,
     pub before: u32,
@@ -23,7 +27,7 @@ pub struct RowPlace<W> {
 }
 
 // One site of a ball: its distance, the place of the entry before it on a shortest walk, and the mark between.
-#[derive(Clone, Copy)]
+#[derive(Clone, Copy, Debug, PartialEq, Eq)]
 pub struct Entry<W> {
     pub site: u32,
     pub distance: W,
@@ -31,11 +35,11 @@ pub struct Entry<W> {
     pub mark: u32,
 }
 
-impl<W: Weight> SitePlace<W> {
-    // A site place that no build fills.
-    pub fn blank() -> SitePlace<W>
-        ensures { result ≡ blank_site }
-    {
+// A site place that no build fills.
+impl<W: Weight> Default for SitePlace<W> {
+    ghost is_default = { λ place. place ≡ blank_site };
+
+    fn default() -> SitePlace<W> {
         SitePlace {
             radius: None,
             hub: None,
@@ -45,11 +49,11 @@ impl<W: Weight> SitePlace<W> {
     }
 }
 
-impl<W: Weight> RowPlace<W> {
-    // A row place that no build fills.
-    pub fn blank() -> RowPlace<W>
-        ensures { result ≡ blank_row }
-    {
+// A row place that no build fills.
+impl<W: Weight> Default for RowPlace<W> {
+    ghost is_default = { λ place. place ≡ blank_row };
+
+    fn default() -> RowPlace<W> {
         RowPlace {
             distance: None,
             before: 0,
@@ -58,11 +62,11 @@ impl<W: Weight> RowPlace<W> {
     }
 }
 
-impl<W: Weight> Entry<W> {
-    // An entry place that no build fills.
-    pub fn blank() -> Entry<W>
-        ensures { result ≡ blank_entry W.Weight.algebra }
-    {
+// An entry place that no build fills.
+impl<W: Weight> Default for Entry<W> {
+    ghost is_default = { λ entry. entry ≡ blank_entry W.Weight.algebra };
+
+    fn default() -> Entry<W> {
         Entry {
             site: 0,
             distance: W::zero(),

@@ -15,6 +15,7 @@ fn write_row<W: Copy>(row: &mut [RowPlace<W>], waiting: &[Waiting<W>], sites: u3
     requires { Within waiting.now sites found (length row.old) }
     ensures { row.new ≡ rowed (settled_labels waiting.now sites found) row.old }
 {
+    // The labels are no slice in their order: the search tells each by its order.
     for order in 0..found {
         if let Some(label) = settled_label(waiting, sites, order) {
             row[label.site as usize] = RowPlace {
@@ -30,36 +31,23 @@ fn write_row<W: Copy>(row: &mut [RowPlace<W>], waiting: &[Waiting<W>], sites: u3
 fn is_closer<W: Weight>(distance: W, hub: u32, radius: Option<W>, nearest: Option<u32>) -> bool
     ensures { result ≡ closer W.Weight.algebra distance hub radius nearest }
 {
-    let Some(radius) = radius else {
+    let (Some(radius), Some(nearest)) = (radius, nearest) else {
         return true;
     };
-    let Some(nearest) = nearest else {
-        return true;
-    };
-    if distance.below(radius) {
-        return true;
-    }
-    if radius.below(distance) {
-        return false;
-    }
-    hub < nearest
+    distance.below(radius) || (!radius.below(distance) && hub < nearest)
 }
 
 // The place of a site after it was told of one more hub, at this distance if at any.
 fn told_of<W: Weight>(place: SitePlace<W>, hub: u32, distance: Option<W>) -> SitePlace<W>
     ensures { result ≡ nearer W.Weight.algebra hub distance place }
 {
-    let Some(distance) = distance else {
-        return place;
-    };
-    if !is_closer(distance, hub, place.radius, place.hub) {
-        return place;
-    }
-    SitePlace {
-        radius: Some(distance),
-        hub: Some(hub),
-        first: place.first,
-        count: place.count,
+    match distance {
+        Some(distance) if is_closer(distance, hub, place.radius, place.hub) => SitePlace {
+            radius: Some(distance),
+            hub: Some(hub),
+            ..place
+        },
+        _ => place,
     }
 }
 
@@ -68,8 +56,8 @@ fn note_row<W: Weight>(site_places: &mut [SitePlace<W>], row: &[RowPlace<W>], hu
     requires { length row.now ≡ length site_places.old }
     ensures { Noted W.Weight.algebra hub row.now site_places.old site_places.new }
 {
-    for site in 0..site_places.len() {
-        site_places[site] = told_of(site_places[site], hub, row[site].distance);
+    for (site, place) in site_places.iter_mut().enumerate() {
+        *place = told_of(*place, hub, row[site].distance);
     }
 }
 
@@ -106,6 +94,8 @@ pub(crate) fn fill_rows<N: Network>(
     requires room { (N.Network.graph (N.Network.means network.now)).sites ≤ length waiting.old }
     ensures { RowsFilled N.W.Weight.algebra (N.Network.graph (N.Network.means network.now)) (listed hub_list.now) site_places.old site_places.new rows.old rows.new waiting.old waiting.new }
 {
+    // The rows lie one behind the other in one lent slice. Tried with `rows.chunks_mut(sites)` beside the hubs: it takes
+    // no 0, and leaves the places unknown.
     let sites = network.sites() as usize;
     for (at, hub) in hub_list.iter().enumerate() {
         let Some(hub) = *hub else {

@@ -1,7 +1,7 @@
 // The filling of all tables.
 ghost use Rattle.filling.specs.Places.{blank_site, blank_row, blank_entry};
-ghost use Rattle.filling.specs.Tables.{SizesFit, memory, Filled};
-ghost use Rattle.std.specs.Prelude.{◌≡◌, true, false, length, replicate};
+ghost use Rattle.filling.specs.Tables.{PlacesFit, SizesFit, memory, Filled};
+ghost use Rattle.std.specs.Prelude.{◌≡◌, ◌↔◌, IsTrue, length, replicate};
 
 use crate::balls::fill_balls;
 use crate::places::{Entry, RowPlace, SitePlace};
@@ -19,12 +19,22 @@ pub const MOST_HUBS: u32 = 64;
 pub const MOST_ENTRIES: u32 = 262144;
 
 // Why tables are not filled.
-#[derive(Clone, Copy)]
+#[derive(Clone, Copy, Debug, PartialEq, Eq)]
 pub enum Unfilled {
     // The entry places are too few: the first site whose ball does not fit.
     NoRoom(u32),
     // The memory does not fit the network's sites.
     Misfit,
+}
+
+// Whether places of these lengths are for so many sites: one for each, and a row of them for each hub place.
+pub fn places_fit(sites: u32, hub_places: usize, site_places: usize, rows: usize) -> bool
+    ensures { IsTrue result ↔ PlacesFit sites hub_places site_places rows }
+{
+    sites <= MOST_SITES
+        && hub_places <= MOST_HUBS as usize
+        && site_places == sites as usize
+        && rows == hub_places * sites as usize
 }
 
 // Whether memory of these lengths fits so many sites.
@@ -36,20 +46,11 @@ fn fit(
     entries: usize,
     waiting: usize,
 ) -> bool
-    ensures yes { result ≡ true → SizesFit sites hub_places site_places rows entries waiting }
-    ensures not { result ≡ false → SizesFit sites hub_places site_places rows entries waiting → ⊥ }
+    ensures { IsTrue result ↔ SizesFit sites hub_places site_places rows entries waiting }
 {
-    if sites > MOST_SITES {
-        return false;
-    }
-    if hub_places > MOST_HUBS as usize {
-        return false;
-    }
-    let sites = sites as usize;
-    if site_places != sites || rows != hub_places * sites {
-        return false;
-    }
-    entries <= MOST_ENTRIES as usize && sites <= waiting
+    places_fit(sites, hub_places, site_places, rows)
+        && entries <= MOST_ENTRIES as usize
+        && sites as usize <= waiting
 }
 
 // Blanks all places.
@@ -62,11 +63,13 @@ fn blank_all<W: Weight>(
     ensures rows { rows.new ≡ replicate (length rows.old) blank_row }
     ensures entries { entries.new ≡ replicate (length entries.old) (blank_entry W.Weight.algebra) }
 {
-    overwrite(site_places, SitePlace::blank());
-    overwrite(rows, RowPlace::blank());
-    overwrite(entries, Entry::blank());
+    overwrite(site_places, SitePlace::default());
+    overwrite(rows, RowPlace::default());
+    overwrite(entries, Entry::default());
 }
 
+// Each part of the tables is lent as a slice of its own, a rule of the project.
+//
 // Fills the tables of a network, over memory of any content: the row of each hub of the list, the radius and the hub
 // of each site, and the balls, one after the other. Answers how many entries they have.
 //
@@ -96,12 +99,9 @@ pub fn fill<N: Network>(
     blank_all(site_places, rows, entries);
     fill_rows(network, hub_list, site_places, rows, waiting);
     let filled = fill_balls(network, site_places, entries, waiting);
-    overwrite(&mut waiting[0..sites as usize], Waiting::blank());
-    match filled {
-        Ok(count) => Ok(count),
-        Err(site) => {
-            blank_all(site_places, rows, entries);
-            Err(Unfilled::NoRoom(site))
-        }
+    overwrite(&mut waiting[0..sites as usize], Waiting::default());
+    if filled.is_err() {
+        blank_all(site_places, rows, entries);
     }
+    filled
 }

@@ -1,121 +1,93 @@
 -- Each way out of a naming and an unnaming, by the rules.
-use Rattle.std.proofs.Common.{◌≡◌, ℕ, suc, ◌+◌, ◌-◌, ◌<◌, ◌≤◌, true, false, leb, List, ◌++◌, length, take, drop, Some, None, Ok, Err, Option, Result, sym, refl, ap, ◌∙◌, arith}
-use Rattle.std.proofs.lemmas.Bool.{le-leb, lt-leb}
+use Rattle.std.proofs.Common.{◌≡◌, ℕ, suc, ◌+◌, ◌-◌, ◌<◌, ◌≤◌, true, false, List, ◌++◌, length, take, drop, Some, None, Ok, Err, Option, Result, ap, ◌∙◌, subst, arith}
+use Rattle.std.proofs.lemmas.Grind.{common_steps}
+use Rattle.std.specs.List.Sorted.{IsBinarySearchResult}
+use Rattle.std.specs.Option.{option_cmp}
+use Rattle.std.specs.Ordering.{nat_cmp}
 use Rattle.weight.specs.Algebra.{Algebra}
-use Rattle.filling.specs.Places.{listed}
-use Rattle.index.specs.Books.{BookState, tables_state, hubs_of, unbuilt}
-use Rattle.index.specs.Calls.{Ruling, refuse, Follows, at_site, naming, unnaming}
-use Rattle.index.specs.Hubs.{listing, has, insert, without, rank, ordered, moved_up, moved_down}
-use Rattle.index.specs.Keeping.{Kept}
-use Rattle.index.specs.declared.book.tables.Tables.{Tables}
-use Rattle.index.specs.declared.fault.IndexFault.{IndexFault}
-use Rattle.index.specs.declared.fault.IndexFault.TheVariants.{NoSuchSite, HubAlready, HubsFull, NoHub}
+use Rattle.index.specs.Books.{BookState, state, hubs_of, unbuilt}
+use Rattle.index.specs.Calls.{Follows, at_site, naming, unnaming}
+use Rattle.index.specs.Hubs.{listing, has, insert, without, rank, sought, ordered, moved_up, moved_down}
+use Rattle.index.specs.declared.book.Book.{Book}
 use Rattle.index.proofs.Listing.{Climbs, length-insert, climbs_insert, rank_most, rank_below, climbs_without}
-use Rattle.index.proofs.Naming.{room_kept, hubs_kept, order_kept, climbs, hubs_few, named_is, unnamed_is, length_without}
-use Rattle.index.proofs.Ruling.{first_ruling, second_ruling}
+use Rattle.index.proofs.Naming.{order_kept, climbs, hubs_few, hubs_front, named_is, unnamed_is, length_without}
+use Rattle.index.proofs.Seeking.{search_is, sought_there, sought_not_there}
 
 -- the book with another hub list in its memory
 abbrev with_list : {V : Type 0} → BookState V → List (Option ℕ) → BookState V
-with_list b ys = record {
-  sites = b.sites;
-  hub_places = b.hub_places;
-  entry_places = b.entry_places;
-  built = b.built;
-  site_places = b.site_places;
-  hub_list = ys;
-  rows = b.rows;
-  entries = b.entries;
-}
+with_list b ys = record b { hub_list = ys }
 
-module _ {V : Type 0} (t : Tables V) (kept : Kept t) where
+module _ {V : Type 0} (b : Book V) where
+  abbrev places : ℕ
+  places = b.sizes.hub_places
+
   abbrev hubs : List ℕ
-  hubs = hubs_of (tables_state t)
+  hubs = hubs_of (state b)
+
+  -- the book's hubs ascend
+  pub ascending : Climbs 0 b.sizes.sites hubs
+  ascending = climbs b.sizes.sites places b.hub_list.now b.held.1 b.ordered
+
+  pub hubs_within : length hubs ≤ places
+  hubs_within = hubs_few b.sizes.sites places b.hub_list.now b.held.1 b.ordered
+
+  -- what a binary search of the places before the blanks answers
+  pub hub_sought : (s n : ℕ) (r : Result ℕ ℕ) → n ≡ length hubs → IsBinarySearchResult (λ y. option_cmp nat_cmp y (Some s)) (take n b.hub_list.now) r → r ≡ sought s hubs
+  hub_sought s n r count h =
+      search_is s 0 b.sizes.sites hubs r ascending
+      (subst (λ xs. IsBinarySearchResult (λ y. option_cmp nat_cmp y (Some s)) xs r) (hubs_front b.sizes.sites places b.hub_list.now b.held.1 b.ordered n count) h)
 
   -- What holds of memory that lists other hubs.
-  pub record Listed (hs : List ℕ) (n : ℕ) (ys : List (Option ℕ)) : Type 0 where
-    pub room : t.hub_places ≤ length ys
-    pub counted : n ≡ length (listed (take t.hub_places ys))
-    pub order : ordered 0 t.sites (take t.hub_places ys) ≡ true
-    pub is : ys ≡ listing t.hub_places hs ++ drop t.hub_places t.hub_list.now
+  pub record Listed (hs : List ℕ) (ys : List (Option ℕ)) : Type 0 where
+    pub order : ordered 0 b.sizes.sites (take places ys) ≡ true
+    pub is : ys ≡ listing places hs ++ drop places b.hub_list.now
 
-  abbrev ascending : Climbs 0 t.sites hubs
-  ascending = climbs t.sites t.hub_places t.hub_list.now kept.held.1 kept.ordered
+  lists : (hs : List ℕ) (ys : List (Option ℕ)) → length hs ≤ places → Climbs 0 b.sizes.sites hs → ys ≡ listing places hs ++ drop places b.hub_list.now → Listed hs ys
+  lists hs ys few c is = record { order = order_kept b.sizes.sites places hs (drop places b.hub_list.now) ys few is c; is = is }
 
-  lists : (hs : List ℕ) (n : ℕ) (ys : List (Option ℕ)) → n ≡ length hs → length hs ≤ t.hub_places → Climbs 0 t.sites hs
-      → ys ≡ listing t.hub_places hs ++ drop t.hub_places t.hub_list.now → Listed hs n ys
-  lists hs n ys count few c is =
-      let p = t.hub_places in
-      let past = drop p t.hub_list.now in
-      record {
-        room = room_kept t.sites p hs past ys few is;
-        counted = count ∙ sym (ap length (hubs_kept t.sites p hs past ys few is));
-        order = order_kept t.sites p hs past ys few is c;
-        is = is;
-      }
+  module _ (s n i : ℕ) (count : n ≡ length hubs) where
+    -- ---- the site is no hub: it is named
 
-  pub hubs_within : length hubs ≤ t.hub_places
-  hubs_within = hubs_few t.sites t.hub_places t.hub_list.now kept.held.1 kept.ordered
+    module _ (place : Err i ≡ sought s hubs) where
+      absent : (has s hubs ≡ false) × (i ≡ rank s hubs)
+      absent = sought_not_there s hubs i place
 
-  module _ (s : ℕ) where
-    pub rank_within : rank s hubs ≤ t.hubs
-    rank_within = omega (arith, rank_most s hubs, kept.counted)
+      pub place_within : i ≤ n
+      place_within = omega (arith, absent.1, rank_most s hubs)
 
-    pub hub_within : has s hubs ≡ true → rank s hubs < t.hubs
-    hub_within h = omega (arith, rank_below s 0 t.sites hubs ascending h, kept.counted)
+      pub named_lists : s < b.sizes.sites → n < places → (ys : List (Option ℕ)) → ys ≡ moved_up n i (Some s) b.hub_list.now → Listed (insert s hubs) ys
+      named_lists there free ys e =
+          lists (insert s hubs) ys (omega (arith, length-insert s hubs)) (climbs_insert s 0 b.sizes.sites hubs ascending (omega arith) there absent.0)
+          (e ∙ ap (λ r. moved_up n r (Some s) b.hub_list.now) absent.1 ∙ named_is b.sizes.sites places b.hub_list.now b.held.1 b.ordered s n count absent.0 free)
 
-    pub named_lists : s < t.sites → has s hubs ≡ false → t.hubs < t.hub_places → (i : ℕ) → i ≡ rank s hubs → (ys : List (Option ℕ))
-        → ys ≡ moved_up t.hubs i (Some s) t.hub_list.now → Listed (insert s hubs) (t.hubs + 1) ys
-    named_lists there no' free i place ys e =
-        lists (insert s hubs) (t.hubs + 1) ys (omega (arith, length-insert s hubs, kept.counted)) (omega (arith, length-insert s hubs, kept.counted))
-        (climbs_insert s 0 t.sites hubs ascending (omega arith) there no')
-        (e ∙ ap (λ r. moved_up t.hubs r (Some s) t.hub_list.now) place ∙ named_is t.sites t.hub_places t.hub_list.now kept.held.1 kept.ordered s t.hubs kept.counted no' free)
+      pub named : (k : Algebra V) → s < b.sizes.sites → n < places → (ys : List (Option ℕ)) (after : BookState V) → Listed (insert s hubs) ys → after ≡ unbuilt k (with_list (state b) ys)
+          → Follows (at_site (state b) s (naming k (state b) s)) (state b) (Ok (n + 1)) after
+      named k there free ys after l e =
+          let no' = absent.0 in
+          let is = l.is in
+          grind (arith, common_steps)
 
-    pub unnamed_lists : has s hubs ≡ true → (i : ℕ) → i ≡ rank s hubs → (ys : List (Option ℕ))
-        → ys ≡ moved_down t.hubs i None t.hub_list.now → Listed (without s hubs) (t.hubs - 1) ys
-    unnamed_lists h i place ys e =
-        let less : suc (length (without s hubs)) ≡ length hubs = length_without t.sites t.hub_places t.hub_list.now kept.held.1 kept.ordered s t.hubs kept.counted h in
-        lists (without s hubs) (t.hubs - 1) ys (omega (arith, less, kept.counted)) (omega (arith, less, hubs_within))
-        (climbs_without s 0 t.sites hubs ascending)
-        (e ∙ ap (λ r. moved_down t.hubs r None t.hub_list.now) place ∙ unnamed_is t.sites t.hub_places t.hub_list.now kept.held.1 kept.ordered s t.hubs kept.counted h)
+    -- ---- the site is a hub: it is unnamed
 
-  module _ (k : Algebra V) (s : ℕ) where
-    module _ (ruling : Ruling (BookState V)) where
-      pub no_site : t.sites ≤ s → Follows (at_site (tables_state t) s ruling) (tables_state t) (Err (NoSuchSite s)) (tables_state t)
-      no_site h = first_ruling (leb t.sites s) (refuse (NoSuchSite s)) ruling (tables_state t) (tables_state t) _ (le-leb t.sites s h) (refl, refl)
+    module _ (place : Ok i ≡ sought s hubs) where
+      there : (has s hubs ≡ true) × (i ≡ rank s hubs)
+      there = sought_there s hubs i place
 
-      site_there : s < t.sites → (r : Result ℕ IndexFault) (after : BookState V) → Follows ruling (tables_state t) r after → Follows (at_site (tables_state t) s ruling) (tables_state t) r after
-      site_there h r after f = second_ruling (leb t.sites s) (refuse (NoSuchSite s)) ruling (tables_state t) after r (lt-leb t.sites s h) f
+      pub place_below : i < n
+      place_below = omega (arith, there.1, rank_below s 0 b.sizes.sites hubs ascending there.0)
 
-    module _ (there : s < t.sites) where
-      pub named_already : has s hubs ≡ true → Follows (at_site (tables_state t) s (naming k (tables_state t) s)) (tables_state t) (Err (HubAlready s)) (tables_state t)
-      named_already h = site_there (naming k (tables_state t) s) there _ _ (first_ruling (has s hubs) _ _ (tables_state t) (tables_state t) _ h (refl, refl))
+      less : suc (length (without s hubs)) ≡ length hubs
+      less = length_without b.sizes.sites places b.hub_list.now b.held.1 b.ordered s n count there.0
 
-      pub names_full : has s hubs ≡ false → t.hub_places ≤ t.hubs → Follows (at_site (tables_state t) s (naming k (tables_state t) s)) (tables_state t) (Err (HubsFull t.hub_places)) (tables_state t)
-      names_full no' full =
-          site_there (naming k (tables_state t) s) there _ _
-          (second_ruling (has s hubs) _ _ (tables_state t) (tables_state t) _ no'
-          (first_ruling (leb t.hub_places (length hubs)) _ _ (tables_state t) (tables_state t) _ (le-leb _ _ (omega (arith, kept.counted))) (refl, refl)))
+      pub unnamed_lists : (ys : List (Option ℕ)) → ys ≡ moved_down n i None b.hub_list.now → Listed (without s hubs) ys
+      unnamed_lists ys e =
+          lists (without s hubs) ys (omega (arith, less, hubs_within)) (climbs_without s 0 b.sizes.sites hubs ascending)
+          (e ∙ ap (λ r. moved_down n r None b.hub_list.now) there.1 ∙ unnamed_is b.sizes.sites places b.hub_list.now b.held.1 b.ordered s n count there.0)
 
-      pub named : has s hubs ≡ false → t.hubs < t.hub_places → (ys : List (Option ℕ)) (after : BookState V) → Listed (insert s hubs) (t.hubs + 1) ys
-          → after ≡ unbuilt k (with_list (tables_state t) ys) → Follows (at_site (tables_state t) s (naming k (tables_state t) s)) (tables_state t) (Ok (t.hubs + 1)) after
-      named no' free ys after l e =
-          site_there (naming k (tables_state t) s) there _ _
-          (second_ruling (has s hubs) _ _ (tables_state t) after _ no'
-          (second_ruling (leb t.hub_places (length hubs)) _ _ (tables_state t) after _ (lt-leb _ _ (omega (arith, kept.counted)))
-          (ap (λ n. Ok n) (answer_is), e ∙ ap (λ zs. unbuilt k (with_list (tables_state t) zs)) l.is)))
-        where
-          answer_is : t.hubs + 1 ≡ suc (length hubs)
-          answer_is = omega (arith, kept.counted)
-
-      pub no_hub : has s hubs ≡ false → Follows (at_site (tables_state t) s (unnaming k (tables_state t) s)) (tables_state t) (Err (NoHub s)) (tables_state t)
-      no_hub no' = site_there (unnaming k (tables_state t) s) there _ _ (second_ruling (has s hubs) _ _ (tables_state t) (tables_state t) _ no' (refl, refl))
-
-      pub unnamed : has s hubs ≡ true → (ys : List (Option ℕ)) (after : BookState V) → Listed (without s hubs) (t.hubs - 1) ys
-          → after ≡ unbuilt k (with_list (tables_state t) ys) → Follows (at_site (tables_state t) s (unnaming k (tables_state t) s)) (tables_state t) (Ok (t.hubs - 1)) after
-      unnamed h ys after l e =
-          site_there (unnaming k (tables_state t) s) there _ _
-          (first_ruling (has s hubs) _ _ (tables_state t) after _ h
-          (ap (λ n. Ok n) (answer_is), e ∙ ap (λ zs. unbuilt k (with_list (tables_state t) zs)) l.is))
-        where
-          answer_is : t.hubs - 1 ≡ length (without s hubs)
-          answer_is = omega (arith, kept.counted, length_without t.sites t.hub_places t.hub_list.now kept.held.1 kept.ordered s t.hubs kept.counted h)
+      pub unnamed : (k : Algebra V) → s < b.sizes.sites → (ys : List (Option ℕ)) (after : BookState V) → Listed (without s hubs) ys → after ≡ unbuilt k (with_list (state b) ys)
+          → Follows (at_site (state b) s (unnaming k (state b) s)) (state b) (Ok (n - 1)) after
+      unnamed k exists ys after l e =
+          let yes' = there.0 in
+          let one_less = less in
+          let is = l.is in
+          grind (arith, common_steps)

@@ -1,7 +1,8 @@
 -- Hub lists: ascending hubs, then blanks, and what naming and unnaming make of them.
-use Rattle.std.proofs.Common.{◌≡◌, ℕ, zero, suc, ◌-◌, ◌<◌, ◌≤◌, true, false, ◌&&◌, eqb, ltb, leb, List, [], ◌∷◌, ◌++◌, map, length, take, drop, replicate, Some, None, Option, sym, refl, ap, ◌∙◌, subst, ⊎_elim, arith}
+use Rattle.std.proofs.Common.{◌≡◌, ℕ, zero, suc, ◌-◌, ◌<◌, ◌≤◌, true, false, ◌&&◌, ltb, leb, List, [], ◌∷◌, ◌++◌, map, length, take, drop, replicate, Some, None, Option, sym, refl, ap, ◌∙◌, arith}
 use Rattle.std.proofs.lemmas.List.{append_assoc, length-append, length-drop, take-append-le, drop-append-le, take_at, drop_at}
-use Rattle.std.proofs.lemmas.Bool.{and_parts, and_from, or_cases, or_parts, leb-true, ltb-true, le-leb, lt-ltb, le-ltb, eqb-true, eqb-false, eq-eqb, ne_eqb, cond-true, cond-false, cases_eq, cases_lt, cases_Bool, both_ways}
+use Rattle.std.proofs.lemmas.Grind.{common_steps}
+use Rattle.std.proofs.lemmas.Bool.{and_parts, both_ways}
 use Rattle.filling.specs.Places.{listed}
 use Rattle.index.specs.Hubs.{listing, has, insert, without, rank, blanks, ordered, moved_up, moved_down}
 
@@ -27,18 +28,12 @@ nones_from_blanks (Some x ∷ xs) h = absurd (both_ways false refl h)
 pub climbs_from_ordered : (low sites : ℕ) (xs : List (Option ℕ)) → ordered low sites xs ≡ true → Climbs low sites (listed xs)
 climbs_from_ordered low sites [] h = tt
 climbs_from_ordered low sites (None ∷ xs) h = tt
-climbs_from_ordered low sites (Some x ∷ xs) h =
-    let parts = and_parts (leb low x && ltb x sites) (ordered (suc x) sites xs) h in
-    let bounds = and_parts (leb low x) (ltb x sites) parts.0 in
-    (leb-true low x bounds.0, ltb-true x sites bounds.1, climbs_from_ordered (suc x) sites xs parts.1)
+climbs_from_ordered low sites (Some x ∷ xs) h = grind (arith, common_steps, climbs_from_ordered (suc x) sites xs)
 
 pub ordered_from_climbs : (low sites n : ℕ) (hs : List ℕ) → Climbs low sites hs → ordered low sites (somes hs ++ replicate n None) ≡ true
 ordered_from_climbs low sites zero [] c = refl
 ordered_from_climbs low sites (suc n) [] c = blanks_nones n
-ordered_from_climbs low sites n (h ∷ hs) c =
-    and_from (leb low h && ltb h sites) (ordered (suc h) sites (somes hs ++ replicate n None))
-    (and_from (leb low h) (ltb h sites) (le-leb low h c.0) (lt-ltb h sites c.1))
-    (ordered_from_climbs (suc h) sites n hs c.2)
+ordered_from_climbs low sites n (h ∷ hs) c = grind (arith, common_steps, c, ordered_from_climbs (suc h) sites n hs c.2)
 
 -- an ordered list is the listing of its hubs
 pub listing_from_ordered : (low sites : ℕ) (xs : List (Option ℕ)) → ordered low sites xs ≡ true → xs ≡ listing (length xs) (listed xs)
@@ -51,14 +46,6 @@ listing_from_ordered low sites (Some x ∷ xs) h =
     let n : length xs - length (listed xs) ≡ suc (length xs) - suc (length (listed xs)) = omega arith in
     ap (λ r. Some x ∷ r) (listing_from_ordered (suc x) sites xs rest ∙ ap (λ m. somes (listed xs) ++ replicate m None) n)
 
-pub listed_nones : (n : ℕ) → listed (replicate n None) ≡ []
-listed_nones zero = refl
-listed_nones (suc n) = refl
-
-pub listed_listing : (n : ℕ) (hs : List ℕ) → listed (somes hs ++ replicate n None) ≡ hs
-listed_listing n [] = listed_nones n
-listed_listing n (h ∷ hs) = ap (λ r. h ∷ r) (listed_listing n hs)
-
 climbs_lower : (low low' sites : ℕ) (hs : List ℕ) → low' ≤ low → Climbs low sites hs → Climbs low' sites hs
 climbs_lower low low' sites [] le c = tt
 climbs_lower low low' sites (h ∷ hs) le c = let a : low ≤ h = c.0 in (omega arith, c.1, c.2)
@@ -66,105 +53,46 @@ climbs_lower low low' sites (h ∷ hs) le c = let a : low ≤ h = c.0 in (omega 
 -- a hub is not below the lowest
 has_least : (s low sites : ℕ) (hs : List ℕ) → Climbs low sites hs → has s hs ≡ true → low ≤ s
 has_least s low sites [] c h = absurd (both_ways false refl h)
-has_least s low sites (x ∷ hs) c h =
-    let a : low ≤ x = c.0 in
-    ⊎_elim
-    (λ (e : eqb x s ≡ true). let same : x ≡ s = eqb-true x s e in omega arith)
-    (λ (e : has s hs ≡ true). let b : suc x ≤ s = has_least s (suc x) sites hs c.2 e in omega arith)
-    (or_cases (eqb x s) (has s hs) h)
+has_least s low sites (x ∷ hs) c h = grind (arith, common_steps, c.0, has_least s (suc x) sites hs c.2)
 
 -- ---- one hub more
 
 pub length-insert : (s : ℕ) (hs : List ℕ) → length (insert s hs) ≡ suc (length hs)
 length-insert s [] = refl
-length-insert s (h ∷ hs) =
-    ⊎_elim
-    (λ (e : ltb s h ≡ true). ap length (cond-true (ltb s h) (s ∷ h ∷ hs) (h ∷ insert s hs) e))
-    (λ (e : ltb s h ≡ false). ap length (cond-false (ltb s h) (s ∷ h ∷ hs) (h ∷ insert s hs) e) ∙ ap suc (length-insert s hs))
-    (cases_Bool (ltb s h))
+length-insert s (h ∷ hs) = grind (arith, common_steps, length-insert s hs)
 
 pub climbs_insert : (s low sites : ℕ) (hs : List ℕ) → Climbs low sites hs → low ≤ s → s < sites → has s hs ≡ false → Climbs low sites (insert s hs)
 climbs_insert s low sites [] c le lt no' = (le, lt, tt)
-climbs_insert s low sites (h ∷ hs) c le lt no' =
-    let apart = or_parts (eqb h s) (has s hs) no' in
-    ⊎_elim
-    (λ (below : s < h). subst (Climbs low sites) (sym (cond-true (ltb s h) (s ∷ h ∷ hs) (h ∷ insert s hs) (lt-ltb s h below))) (le, lt, (below, c.1, c.2)))
-    (λ (above : h ≤ s).
-    let ne : h ≡ s → ⊥ = eqb-false h s apart.0 in
-    subst (Climbs low sites) (sym (cond-false (ltb s h) (s ∷ h ∷ hs) (h ∷ insert s hs) (le-ltb s h above)))
-    (c.0, c.1, climbs_insert s (suc h) sites hs c.2 (omega arith) lt apart.1))
-    (cases_lt s h)
+climbs_insert s low sites (h ∷ hs) c le lt no' = grind (arith, common_steps, c, climbs_insert s (suc h) sites hs c.2)
 
 pub rank_most : (s : ℕ) (hs : List ℕ) → rank s hs ≤ length hs
 rank_most s [] = omega arith
-rank_most s (h ∷ hs) =
-    ⊎_elim
-    (λ (e : ltb h s ≡ true). let a : rank s (h ∷ hs) ≡ suc (rank s hs) = cond-true (ltb h s) (suc (rank s hs)) 0 e in omega (arith, rank_most s hs))
-    (λ (e : ltb h s ≡ false). let a : rank s (h ∷ hs) ≡ 0 = cond-false (ltb h s) (suc (rank s hs)) 0 e in omega arith)
-    (cases_Bool (ltb h s))
+rank_most s (h ∷ hs) = grind (arith, common_steps, rank_most s hs)
 
 pub insert_is : (s low sites : ℕ) (hs : List ℕ) → Climbs low sites hs → has s hs ≡ false → insert s hs ≡ take (rank s hs) hs ++ s ∷ drop (rank s hs) hs
 insert_is s low sites [] c no' = refl
-insert_is s low sites (h ∷ hs) c no' =
-    let apart = or_parts (eqb h s) (has s hs) no' in
-    let ne : h ≡ s → ⊥ = eqb-false h s apart.0 in
-    ⊎_elim
-    (λ (below : s < h).
-    cond-true (ltb s h) (s ∷ h ∷ hs) (h ∷ insert s hs) (lt-ltb s h below)
-    ∙ ap (λ n. take n (h ∷ hs) ++ s ∷ drop n (h ∷ hs)) (sym (cond-false (ltb h s) (suc (rank s hs)) 0 (le-ltb h s (omega arith)))))
-    (λ (above : h ≤ s).
-    cond-false (ltb s h) (s ∷ h ∷ hs) (h ∷ insert s hs) (le-ltb s h above)
-    ∙ ap (λ r. h ∷ r) (insert_is s (suc h) sites hs c.2 apart.1)
-    ∙ ap (λ n. take n (h ∷ hs) ++ s ∷ drop n (h ∷ hs)) (sym (cond-true (ltb h s) (suc (rank s hs)) 0 (lt-ltb h s (omega arith)))))
-    (cases_lt s h)
+insert_is s low sites (h ∷ hs) c no' = grind (arith, common_steps, insert_is s (suc h) sites hs c.2)
 
 -- ---- one hub less
 
 without_none : (s : ℕ) (hs : List ℕ) → has s hs ≡ false → without s hs ≡ hs
 without_none s [] no' = refl
-without_none s (h ∷ hs) no' =
-    let apart = or_parts (eqb h s) (has s hs) no' in
-    cond-false (eqb h s) (without s hs) (h ∷ without s hs) apart.0 ∙ ap (λ r. h ∷ r) (without_none s hs apart.1)
+without_none s (h ∷ hs) no' = grind (arith, common_steps, without_none s hs)
 
 has_not_below : (s low sites : ℕ) (hs : List ℕ) → Climbs low sites hs → s < low → has s hs ≡ false
-has_not_below s low sites hs c lt =
-    ⊎_elim (λ (e : has s hs ≡ true). absurd (omega (arith, has_least s low sites hs c e))) (λ (e : has s hs ≡ false). e) (cases_Bool (has s hs))
+has_not_below s low sites hs c lt = grind (arith, common_steps, has_least s low sites hs c)
 
 pub without_is : (s low sites : ℕ) (hs : List ℕ) → Climbs low sites hs → has s hs ≡ true → without s hs ≡ take (rank s hs) hs ++ drop (suc (rank s hs)) hs
 without_is s low sites [] c h = absurd (both_ways false refl h)
-without_is s low sites (x ∷ hs) c h =
-    ⊎_elim
-    (λ (same : x ≡ s).
-    cond-true (eqb x s) (without s hs) (x ∷ without s hs) (eq-eqb x s same)
-    ∙ without_none s hs (has_not_below s (suc x) sites hs c.2 (omega arith))
-    ∙ ap (λ n. take n (x ∷ hs) ++ drop (suc n) (x ∷ hs)) (sym (cond-false (ltb x s) (suc (rank s hs)) 0 (le-ltb x s (omega arith)))))
-    (λ (ne : x ≡ s → ⊥).
-    let there : has s hs ≡ true = rw (ne_eqb x s ne) at h in
-    let above : suc x ≤ s = has_least s (suc x) sites hs c.2 there in
-    cond-false (eqb x s) (without s hs) (x ∷ without s hs) (ne_eqb x s ne)
-    ∙ ap (λ r. x ∷ r) (without_is s (suc x) sites hs c.2 there)
-    ∙ ap (λ n. take n (x ∷ hs) ++ drop (suc n) (x ∷ hs)) (sym (cond-true (ltb x s) (suc (rank s hs)) 0 (lt-ltb x s (omega arith)))))
-    (cases_eq x s)
+without_is s low sites (x ∷ hs) c h = grind (arith, common_steps, without_is s (suc x) sites hs c.2, without_none s hs, has_not_below s (suc x) sites hs c.2)
 
 pub rank_below : (s low sites : ℕ) (hs : List ℕ) → Climbs low sites hs → has s hs ≡ true → rank s hs < length hs
 rank_below s low sites [] c h = absurd (both_ways false refl h)
-rank_below s low sites (x ∷ hs) c h =
-    ⊎_elim
-    (λ (e : x < s).
-    let there : has s hs ≡ true = rw (ne_eqb x s (omega arith)) at h in
-    let a : rank s (x ∷ hs) ≡ suc (rank s hs) = cond-true (ltb x s) (suc (rank s hs)) 0 (lt-ltb x s e) in
-    omega (arith, rank_below s (suc x) sites hs c.2 there))
-    (λ (e : s ≤ x). let a : rank s (x ∷ hs) ≡ 0 = cond-false (ltb x s) (suc (rank s hs)) 0 (le-ltb x s e) in omega arith)
-    (cases_lt x s)
+rank_below s low sites (x ∷ hs) c h = grind (arith, common_steps, rank_below s (suc x) sites hs c.2)
 
 pub climbs_without : (s low sites : ℕ) (hs : List ℕ) → Climbs low sites hs → Climbs low sites (without s hs)
 climbs_without s low sites [] c = tt
-climbs_without s low sites (h ∷ hs) c =
-    let a : low ≤ h = c.0 in
-    ⊎_elim
-    (λ (e : eqb h s ≡ true). subst (Climbs low sites) (sym (cond-true (eqb h s) (without s hs) (h ∷ without s hs) e)) (climbs_lower (suc h) low sites (without s hs) (omega arith) (climbs_without s (suc h) sites hs c.2)))
-    (λ (e : eqb h s ≡ false). subst (Climbs low sites) (sym (cond-false (eqb h s) (without s hs) (h ∷ without s hs) e)) (c.0, c.1, climbs_without s (suc h) sites hs c.2))
-    (cases_Bool (eqb h s))
+climbs_without s low sites (h ∷ hs) c = grind (arith, common_steps, c, climbs_without s (suc h) sites hs c.2, climbs_lower (suc h) low sites (without s hs))
 
 -- ---- lists of places
 

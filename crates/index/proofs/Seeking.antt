@@ -1,94 +1,114 @@
--- The place of a site in an ordered hub list.
-use Rattle.std.proofs.Common.{◌≡◌, ℕ, suc, ◌+◌, ◌<◌, ◌≤◌, Bool, true, false, ◌&&◌, eqb, ltb, leb, List, [], ◌∷◌, length, get_or, drop, Some, None, Ok, Err, Option, Result, sym, refl, ap, ◌∙◌, arith}
-use Rattle.std.proofs.lemmas.List.{drop_more, at_drop_all}
-use Rattle.std.proofs.lemmas.Bool.{and_parts, or_from, leb-true, lt-ltb, le-ltb, eq-eqb, ne_eqb, cond-true, cond-false}
+-- How many hubs a hub list has, and the place of a site among them.
+use Rattle.std.proofs.Common.{◌≡◌, ℕ, zero, suc, ◌<◌, ◌≤◌, true, false, List, [], ◌∷◌, length, get_or, Some, None, Ok, Err, Option, Result, sym, refl, ap, ◌∙◌, subst, arith}
+use Rattle.std.specs.List.Sorted.{IsBinarySearchResult, IsPartitionedBy, IsPartitionPoint}
+use Rattle.std.specs.Option.{option_cmp, is_some}
+use Rattle.std.specs.Ordering.{nat_cmp}
+use Rattle.std.specs.declared.cmp.Ordering.TheVariants.{Less, Equal, Greater}
+use Rattle.std.proofs.lemmas.Bool.{and_parts, both_ways}
+use Rattle.std.proofs.lemmas.Grind.{common_steps}
+use Rattle.std.proofs.lemmas.List.{length-map}
+use Rattle.std.proofs.lemmas.List.{get_or-map as element_map}
+use Rattle.std.proofs.Math.ListN.{get_or-map}
+use Rattle.std.proofs.lemmas.List.Sorted.{searched}
 use Rattle.filling.specs.Places.{listed}
-use Rattle.index.specs.Hubs.{has, rank, sought, ordered}
+use Rattle.index.specs.Hubs.{has, rank, sought, blanks, ordered}
+use Rattle.index.proofs.Listing.{Climbs, somes}
+
+-- ---- how many hubs there are
+
+blanks_at : (xs : List (Option ℕ)) (j : ℕ) (d : Option ℕ) → blanks xs ≡ true → j < length xs → is_some (get_or xs j d) ≡ false
+blanks_at [] j d h lt = absurd (omega arith)
+blanks_at (None ∷ xs) zero d h lt = refl
+blanks_at (None ∷ xs) (suc j) d h lt = blanks_at xs j d h (omega arith)
+blanks_at (Some x ∷ xs) j d h lt = absurd (both_ways false refl h)
+
+-- the hubs stand before the blanks
+pub hubs_first : (low sites : ℕ) (xs : List (Option ℕ)) → ordered low sites xs ≡ true → IsPartitionedBy is_some xs
+hubs_first low sites [] h i j d le lt some = absurd (omega arith)
+hubs_first low sites (None ∷ xs) h i zero d le lt some = absurd (both_ways false refl some)
+hubs_first low sites (None ∷ xs) h i (suc j) d le lt some = absurd (both_ways (is_some (get_or xs j d)) (blanks_at xs j d h (omega arith)) some)
+hubs_first low sites (Some x ∷ xs) h zero j d le lt some = refl
+hubs_first low sites (Some x ∷ xs) h (suc i) zero d le lt some = absurd (omega arith)
+hubs_first low sites (Some x ∷ xs) h (suc i) (suc j) d le lt some = hubs_first (suc x) sites xs (and_parts _ _ h).1 i j d (omega arith) (omega arith) some
+
+-- the place where they end is their number
+pub hubs_counted : (xs : List (Option ℕ)) (i : ℕ) → i ≤ length xs → IsPartitionPoint (λ y. is_some y ≡ true) (λ y. is_some y ≡ false) xs i → i ≡ length (listed xs)
+hubs_counted [] i le p = omega arith
+hubs_counted (None ∷ xs) zero le p = refl
+hubs_counted (None ∷ xs) (suc i) le p = absurd (both_ways false refl (p.0 0 None (omega arith) (omega arith)))
+hubs_counted (Some x ∷ xs) zero le p = absurd (both_ways true (p.1 0 None (omega arith) (omega arith)) refl)
+hubs_counted (Some x ∷ xs) (suc i) le p =
+    ap suc (hubs_counted xs i (omega arith) ((λ k d low high. p.0 (suc k) d (omega arith) (omega arith)), (λ k d low high. p.1 (suc k) d (omega arith) (omega arith))))
+
+-- ---- ascending hubs
+
+-- each is at least the lowest
+above_least : (low sites : ℕ) (hs : List ℕ) (i : ℕ) → Climbs low sites hs → i < length hs → low ≤ get_or hs i 0
+above_least low sites [] i c lt = absurd (omega arith)
+above_least low sites (h ∷ hs) zero c lt = c.0
+above_least low sites (h ∷ hs) (suc i) c lt = omega (arith, c.0, above_least (suc h) sites hs i c.2 (omega arith))
+
+rising : (low sites : ℕ) (hs : List ℕ) → Climbs low sites hs → (i j : ℕ) → i ≤ j → j < length hs → get_or hs i 0 ≤ get_or hs j 0
+rising low sites [] c i j le lt = absurd (omega arith)
+rising low sites (h ∷ hs) c zero zero le lt = omega arith
+rising low sites (h ∷ hs) c zero (suc j) le lt = omega (arith, above_least (suc h) sites hs j c.2 (omega arith))
+rising low sites (h ∷ hs) c (suc i) zero le lt = absurd (omega arith)
+rising low sites (h ∷ hs) c (suc i) (suc j) le lt = rising (suc h) sites hs c.2 i j (omega arith) (omega arith)
+
+-- ---- the place of a site
 
 -- a place in the rest of a list, counted from the list's start
-abbrev pub onward : ℕ → Result ℕ ℕ → Result ℕ ℕ
-onward n (Ok i) = Ok (n + i)
-onward n (Err i) = Err (n + i)
-
--- a site below all hubs is none of them
-pub has_below : (s low sites : ℕ) (os : List (Option ℕ)) → s < low → ordered low sites os ≡ true → has s (listed os) ≡ false
-has_below s low sites [] below h = refl
-has_below s low sites (None ∷ os) below h = refl
-has_below s low sites (Some x ∷ os) below h =
-    let parts = and_parts (leb low x && ltb x sites) (ordered (suc x) sites os) h in
-    let least : low ≤ x = leb-true low x (and_parts (leb low x) (ltb x sites) parts.0).0 in
-    or_from (eqb x s) (has s (listed os)) (ne_eqb x s (omega arith)) (has_below s (suc x) sites os (omega arith) parts.1)
+abbrev onward : Result ℕ ℕ → Result ℕ ℕ
+onward (Ok i) = Ok (suc i)
+onward (Err i) = Err (suc i)
 
 module _ (s x : ℕ) (hs : List ℕ) where
-  sought_passes : x < s → sought s (x ∷ hs) ≡ onward 1 (sought s hs)
-  sought_passes lt = go (has s hs) refl
+  sought_passes : x < s → sought s (x ∷ hs) ≡ onward (sought s hs)
+  sought_passes lt = grind (arith, common_steps)
+
+module _ (s : ℕ) where
+  has_above : (hs : List ℕ) → ((k : ℕ) → k < length hs → s < get_or hs k 0) → has s hs ≡ false
+  has_above [] above = refl
+  has_above (h ∷ hs) above = grind (arith, common_steps, above 0, has_above hs (λ k lt. above (suc k) (omega arith)))
+
+  found : (low sites : ℕ) (hs : List ℕ) (i : ℕ) → Climbs low sites hs → i < length hs → get_or hs i 0 ≡ s → sought s hs ≡ Ok i
+  found low sites [] i c lt e = absurd (omega arith)
+  found low sites (h ∷ hs) zero c lt e = grind (arith, common_steps)
+  found low sites (h ∷ hs) (suc i) c lt e =
+      sought_passes s h hs (omega (arith, e, above_least (suc h) sites hs i c.2 (omega arith))) ∙ ap onward (found (suc h) sites hs i c.2 (omega arith) e)
+
+  missed : (hs : List ℕ) (i : ℕ) → i ≤ length hs → ((k : ℕ) → k < i → get_or hs k 0 < s) → ((k : ℕ) → i ≤ k → k < length hs → s < get_or hs k 0) → sought s hs ≡ Err i
+  missed [] i le below above = ap (λ n. Err n) (omega arith)
+  missed (h ∷ hs) zero le below above = grind (arith, common_steps, above 0, has_above hs (λ k lt. above (suc k) (omega arith) (omega arith)))
+  missed (h ∷ hs) (suc i) le below above =
+      sought_passes s h hs (below 0 (omega arith))
+      ∙ ap onward (missed hs i (omega arith) (λ k lt. below (suc k) (omega arith)) (λ k le' lt. above (suc k) (omega arith) (omega arith)))
+
+  -- the order of the places is that of the hubs
+  among_hubs : (hs : List ℕ) (r : Result ℕ ℕ) → IsBinarySearchResult (λ y. option_cmp nat_cmp y (Some s)) (somes hs) r → IsBinarySearchResult (λ y. nat_cmp y s) hs r
+  among_hubs hs (Ok i) h = λ d. subst (λ o. option_cmp nat_cmp o (Some s) ≡ Equal) (get_or-map (λ x. Some x) hs i d) (h (Some d))
+  among_hubs hs (Err i) h = λ up.
+      let p = h (λ a b d le lt. rw (at a d (omega arith), at b d (omega arith)) (up a b 0 le (omega (arith, length-map hs (λ x. Some x))))) in (
+        (λ k d le lt. subst (λ o. option_cmp nat_cmp o (Some s) ≡ Less) (get_or-map (λ x. Some x) hs k d) (p.0 k (Some d) le lt)),
+        λ k d le lt. subst (λ o. option_cmp nat_cmp o (Some s) ≡ Greater) (get_or-map (λ x. Some x) hs k d) (p.1 k (Some d) le (omega (arith, length-map hs (λ x. Some x)))),
+      )
     where
-      same : (b : Bool) → has s hs ≡ b → has s (x ∷ hs) ≡ b
-      same b e = rw (ne_eqb x s (omega arith)) e
+      at : (k : ℕ) (d : Option ℕ) → k < length (somes hs) → get_or (somes hs) k d ≡ Some (get_or hs k 0)
+      at k d lt = element_map (λ x. Some x) hs k 0 d (omega (arith, length-map hs (λ x. Some x)))
 
-      ranks : rank s (x ∷ hs) ≡ 1 + rank s hs
-      ranks = cond-true (ltb x s) (suc (rank s hs)) 0 (lt-ltb x s lt) ∙ omega arith
+  -- what a binary search of the hubs answers
+  pub search_is : (low sites : ℕ) (hs : List ℕ) (r : Result ℕ ℕ) → Climbs low sites hs → IsBinarySearchResult (λ y. option_cmp nat_cmp y (Some s)) (somes hs) r → r ≡ sought s hs
+  search_is low sites hs (Ok i) c h =
+      let p = searched hs s (Ok i) (among_hubs hs (Ok i) h) (rising low sites hs c) in
+      sym (found low sites hs i c p.0 p.1)
+  search_is low sites hs (Err i) c h =
+      let p = searched hs s (Err i) (among_hubs hs (Err i) h) (rising low sites hs c) in
+      sym (missed hs i p.0 p.1 p.2)
 
-      go : (b : Bool) → has s hs ≡ b → sought s (x ∷ hs) ≡ onward 1 (sought s hs)
-      go true e = rw (same true e, e) (ap (λ n. Ok n) ranks)
-      go false e = rw (same false e, e) (ap (λ n. Err n) ranks)
+-- what the place that was sought tells
+module _ (s : ℕ) (hs : List ℕ) (i : ℕ) where
+  pub sought_there : Ok i ≡ sought s hs → (has s hs ≡ true) × (i ≡ rank s hs)
+  sought_there e = (grind (arith, common_steps), grind (arith, common_steps))
 
-  sought_finds : x ≡ s → sought s (x ∷ hs) ≡ Ok 0
-  sought_finds e = rw (eq-eqb x s e) (ap (λ n. Ok n) (cond-false (ltb x s) (suc (rank s hs)) 0 (le-ltb x s (omega arith))))
-
-  sought_stops : s < x → has s hs ≡ false → sought s (x ∷ hs) ≡ Err 0
-  sought_stops lt none =
-      rw (or_from (eqb x s) (has s hs) (ne_eqb x s (omega arith)) none) (ap (λ n. Err n) (cond-false (ltb x s) (suc (rank s hs)) 0 (le-ltb x s (omega arith))))
-
--- The search has passed the hubs before the place `at`, all below the site.
-pub record Passed (s : ℕ) (xs : List (Option ℕ)) (at : ℕ) : Type 0 where
-  pub sites : ℕ
-  pub low : ℕ
-  pub rest_ordered : ordered low sites (drop at xs) ≡ true
-  pub sought_on : sought s (listed xs) ≡ onward at (sought s (listed (drop at xs)))
-
-onward_0 : (r : Result ℕ ℕ) → onward 0 r ≡ r
-onward_0 (Ok i) = ap (λ n. Ok n) (omega arith)
-onward_0 (Err i) = ap (λ n. Err n) (omega arith)
-
-onward_onward : (n : ℕ) (r : Result ℕ ℕ) → onward n (onward 1 r) ≡ onward (n + 1) r
-onward_onward n (Ok i) = ap (λ m. Ok m) (omega arith)
-onward_onward n (Err i) = ap (λ m. Err m) (omega arith)
-
-pub passed_none : (s : ℕ) (xs : List (Option ℕ)) → ((sites : ℕ) × (ordered 0 sites xs ≡ true)) → Passed s xs 0
-passed_none s xs h = record { sites = h.0; low = 0; rest_ordered = h.1; sought_on = sym (onward_0 (sought s (listed xs))) }
-
-module _ (s : ℕ) (xs : List (Option ℕ)) (at : ℕ) (p : Passed s xs at) where
-  pub blank_there : at < length xs → get_or xs at None ≡ None → Err at ≡ sought s (listed xs)
-  blank_there lt e =
-      let rest : drop at xs ≡ None ∷ drop (at + 1) xs = drop_more xs at None lt ∙ ap (λ o. o ∷ drop (at + 1) xs) e in
-      sym (p.sought_on ∙ ap (λ os. onward at (sought s (listed os))) rest ∙ ap (λ n. Err n) (omega arith))
-
-  pub none_left : at ≤ length xs → length xs ≤ at → Err (length xs) ≡ sought s (listed xs)
-  none_left le ge =
-      sym (p.sought_on ∙ at_drop_all (λ os. onward at (sought s (listed os))) xs at ge ∙ ap (λ n. Err n) (omega arith))
-
-  module _ (h : ℕ) (lt : at < length xs) (e : get_or xs at None ≡ Some h) where
-    rest : drop at xs ≡ Some h ∷ drop (at + 1) xs
-    rest = drop_more xs at None lt ∙ ap (λ o. o ∷ drop (at + 1) xs) e
-
-    later : ordered (suc h) p.sites (drop (at + 1) xs) ≡ true
-    later = (and_parts (leb p.low h && ltb h p.sites) (ordered (suc h) p.sites (drop (at + 1) xs)) (rw rest at p.rest_ordered)).1
-
-    here : sought s (listed xs) ≡ onward at (sought s (h ∷ listed (drop (at + 1) xs)))
-    here = p.sought_on ∙ ap (λ os. onward at (sought s (listed os))) rest
-
-    pub passed_more : (h ≡ s → ⊥) → h ≤ s → Passed s xs (at + 1)
-    passed_more ne le = record {
-      sites = p.sites;
-      low = suc h;
-      rest_ordered = later;
-      sought_on = here ∙ ap (onward at) (sought_passes s h (listed (drop (at + 1) xs)) (omega arith)) ∙ onward_onward at (sought s (listed (drop (at + 1) xs)));
-    }
-
-    pub found_there : h ≡ s → Ok at ≡ sought s (listed xs)
-    found_there same = sym (here ∙ ap (onward at) (sought_finds s h (listed (drop (at + 1) xs)) same) ∙ ap (λ n. Ok n) (omega arith))
-
-    pub beyond_there : s < h → Err at ≡ sought s (listed xs)
-    beyond_there less =
-        sym (here ∙ ap (onward at) (sought_stops s h (listed (drop (at + 1) xs)) less (has_below s (suc h) p.sites (drop (at + 1) xs) (omega arith) later)) ∙ ap (λ n. Err n) (omega arith))
+  pub sought_not_there : Err i ≡ sought s hs → (has s hs ≡ false) × (i ≡ rank s hs)
+  sought_not_there e = (grind (arith, common_steps), grind (arith, common_steps))

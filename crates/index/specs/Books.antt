@@ -1,16 +1,15 @@
 -- The book: its sizes, and all the memory that it was lent, places past its sizes too.
 use Rattle.std.specs.Prelude.{◌≡◌, ℕ, ◌*◌, Bool, false, cond, List, ◌++◌, length, take, drop, Some, None, Option, Result}
-use Rattle.network.specs.Sizes.{or_then, checked}
+use Rattle.network.specs.Sizes.{over, short, or_then, checked}
 use Rattle.weight.specs.Algebra.{Algebra}
 use Rattle.filling.specs.Places.{blank_site, blank_row, blank_entry, blanked, listed}
 use Rattle.filling.specs.declared.places.Entry.{Entry}
 use Rattle.filling.specs.declared.places.RowPlace.{RowPlace}
 use Rattle.filling.specs.declared.places.SitePlace.{SitePlace}
 use Rattle.index.specs.Hubs.{listing}
-use Rattle.index.specs.Sizes.{over, short}
 use Rattle.index.specs.declared.book.Book.{Book}
-use Rattle.index.specs.declared.book.tables.Tables.{Tables}
 use Rattle.index.specs.declared.fault.IndexFault.{IndexFault}
+use Rattle.index.specs.declared.fault.IndexFault.TheVariants.{TooLarge, TooShort}
 
 pub record BookState (V : Type 0) : Type 0 where
   pub sites : ℕ
@@ -24,20 +23,17 @@ pub record BookState (V : Type 0) : Type 0 where
   pub rows : List (RowPlace V)
   pub entries : List (Entry V)
 
-abbrev pub tables_state : {V : Type 0} → Tables V → BookState V
-tables_state t = record {
-  sites = t.sites;
-  hub_places = t.hub_places;
-  entry_places = t.entry_places;
-  built = t.built;
-  site_places = t.site_places.now;
-  hub_list = t.hub_list.now;
-  rows = t.rows.now;
-  entries = t.entries.now;
-}
-
 abbrev pub state : {V : Type 0} → Book V → BookState V
-state b = tables_state b.tables
+state b = record {
+  sites = b.sizes.sites;
+  hub_places = b.sizes.hub_places;
+  entry_places = b.sizes.entry_places;
+  built = b.built;
+  site_places = b.site_places.now;
+  hub_list = b.hub_list.now;
+  rows = b.rows.now;
+  entries = b.entries.now;
+}
 
 -- the hubs named now, ascending
 abbrev pub hubs_of : {V : Type 0} → BookState V → List ℕ
@@ -45,28 +41,15 @@ hubs_of b = listed (take b.hub_places b.hub_list)
 
 -- the book with these hubs
 abbrev pub with_hubs : {V : Type 0} → BookState V → List ℕ → BookState V
-with_hubs b hs = record {
-  sites = b.sites;
-  hub_places = b.hub_places;
-  entry_places = b.entry_places;
-  built = b.built;
-  site_places = b.site_places;
-  hub_list = listing b.hub_places hs ++ drop b.hub_places b.hub_list;
-  rows = b.rows;
-  entries = b.entries;
-}
+with_hubs b hs = record b { hub_list = listing b.hub_places hs ++ drop b.hub_places b.hub_list }
 
 -- ---- blanking
 
 -- the book without its build: every place blank, hub list and further places apart
 abbrev pub emptied : {V : Type 0} → Algebra V → BookState V → BookState V
-emptied k b = record {
-  sites = b.sites;
-  hub_places = b.hub_places;
-  entry_places = b.entry_places;
+emptied k b = record b {
   built = false;
   site_places = blanked b.sites blank_site b.site_places;
-  hub_list = b.hub_list;
   rows = blanked (b.hub_places * b.sites) blank_row b.rows;
   entries = blanked b.entry_places (blank_entry k) b.entries;
 }
@@ -80,9 +63,9 @@ unbuilt k b = cond b.built (emptied k b) b
 -- The first size or memory that does not do: sites, site places, hub places, hub list, hub rows, entry places, entries.
 abbrev pub size_fault : ℕ → ℕ → ℕ → ℕ → ℕ → ℕ → ℕ → Option IndexFault
 size_fault sites site_memory hub_places hub_memory row_memory entry_places entry_memory =
-    or_then (over 4096 sites) (or_then (short site_memory sites)
-    (or_then (over 64 hub_places) (or_then (short hub_memory hub_places) (or_then (short row_memory (hub_places * sites))
-    (or_then (over 262144 entry_places) (short entry_memory entry_places))))))
+    or_then (over TooLarge 4096 sites) (or_then (short TooShort site_memory sites)
+    (or_then (over TooLarge 64 hub_places) (or_then (short TooShort hub_memory hub_places) (or_then (short TooShort row_memory (hub_places * sites))
+    (or_then (over TooLarge 262144 entry_places) (short TooShort entry_memory entry_places))))))
 
 -- The fault of these sizes over the memory of a book.
 abbrev pub fault_in : {V : Type 0} → BookState V → ℕ → ℕ → ℕ → Option IndexFault

@@ -1,30 +1,16 @@
 -- What every book keeps, whatever network is handed beside it: this is what makes its calls safe.
-use Rattle.std.specs.Prelude.{◌≡◌, ◌*◌, ◌≤◌, true, length, take}
-use Rattle.filling.specs.Places.{listed}
+use Rattle.std.specs.Prelude.{◌≡◌, ℕ, ◌*◌, ◌≤◌, true, List, Option, take}
 use Rattle.index.specs.Hubs.{ordered}
-use Rattle.index.specs.declared.book.tables.Tables.{Tables}
 
--- the sizes are within their largest
-abbrev pub Within : {V : Type 0} → Tables V → Type 0
-Within t = (t.sites ≤ 4096) × (t.hub_places ≤ 64) × (t.entry_places ≤ 262144)
+-- the sizes are within their largest: sites, hub places, entry places
+abbrev pub Within : ℕ → ℕ → ℕ → Type 0
+Within sites hub_places entry_places = (sites ≤ 4096) × (hub_places ≤ 64) × (entry_places ≤ 262144)
 
--- the memory holds them
-abbrev pub Held : {V : Type 0} → Tables V → Type 0
-Held t =
-    (t.sites ≤ length t.site_places.now) × (t.hub_places ≤ length t.hub_list.now)
-    × (t.hub_places * t.sites ≤ length t.rows.now) × (t.entry_places ≤ length t.entries.now)
-
--- the count of hubs is that of the hub list
-abbrev pub Counted : {V : Type 0} → Tables V → Type 0
-Counted t = t.hubs ≡ length (listed (take t.hub_places t.hub_list.now))
+-- the memory holds them: sites, site places, hub places, hub list, hub rows, entry places, entries
+abbrev pub Held : ℕ → ℕ → ℕ → ℕ → ℕ → ℕ → ℕ → Type 0
+Held sites site_memory hub_places hub_memory row_memory entry_places entry_memory =
+    (sites ≤ site_memory) × (hub_places ≤ hub_memory) × (hub_places * sites ≤ row_memory) × (entry_places ≤ entry_memory)
 
 -- the hub list ascends, names sites only, then blanks
-abbrev pub Ordered : {V : Type 0} → Tables V → Type 0
-Ordered t = ordered 0 t.sites (take t.hub_places t.hub_list.now) ≡ true
-
--- all of it together
-pub record Kept {V : Type 0} (t : Tables V) : Type 0 where
-  pub within : Within t
-  pub held : Held t
-  pub counted : Counted t
-  pub ordered : Ordered t
+abbrev pub Ordered : ℕ → ℕ → List (Option ℕ) → Type 0
+Ordered sites hub_places hub_list = ordered 0 sites (take hub_places hub_list) ≡ true

@@ -1,5 +1,4 @@
 pub mod Faults
-pub mod Sizes
 pub mod Hubs
 pub mod Books
 pub mod Keeping

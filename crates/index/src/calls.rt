@@ -1,4 +1,5 @@
-// The calls on an index. An index is a network and a book, which its user holds side by side.
+// The calls on an index. An index is a network and a book, which its user holds side by side: in one value a figure would
+// lend both as `&mut`, or a naming the network, and ask more of callers.
 ghost use Rattle.index.specs.Asking.{Asked};
 ghost use Rattle.index.specs.Books.{state};
 ghost use Rattle.index.specs.Building.{Built};
@@ -7,14 +8,12 @@ ghost use Rattle.network.specs.Sizes.{checked};
 ghost use Rattle.std.specs.Prelude.{◌≡◌, false, is_ok};
 
 use crate::book::Book;
-use crate::book::asking::ask;
-use crate::book::building::build_book;
 use crate::fault::IndexFault;
 use network::Network;
 use shortest::waiting::Waiting;
 
 // Refuses a book that differs from the network in sites.
-fn check_agreed<'a, N: Network>(network: &N, book: &Book<'a, N::W>) -> Result<(), IndexFault>
+fn check_agreed<N: Network>(network: &N, book: &Book<'_, N::W>) -> Result<(), IndexFault>
     ensures { result ≡ checked (differ (state book.now).sites (N.Network.graph (N.Network.means network.now)).sites) }
 {
     let sites = network.sites();
@@ -26,9 +25,9 @@ fn check_agreed<'a, N: Network>(network: &N, book: &Book<'a, N::W>) -> Result<()
 
 // A change of the network. Granted, it blanks the book's build, also where the change alters nothing:
 // no figure of an earlier build outlives it.
-pub fn change<'a, N: Network>(
+pub fn change<N: Network>(
     network: &mut N,
-    book: &mut Book<'a, N::W>,
+    book: &mut Book<'_, N::W>,
     change: N::Change,
 ) -> Result<u32, IndexFault>
     ensures changed { Changed N.W.Weight.algebra N.Network.graph N.Network.rule change (N.Network.means network.old) (state book.old) result (N.Network.means network.new) (state book.new) }
@@ -41,9 +40,9 @@ pub fn change<'a, N: Network>(
 }
 
 // Names a site as a hub, and answers how many hubs there are then.
-pub fn name<'a, N: Network>(
+pub fn name<N: Network>(
     network: &N,
-    book: &mut Book<'a, N::W>,
+    book: &mut Book<'_, N::W>,
     site: u32,
 ) -> Result<u32, IndexFault>
     ensures { Named N.W.Weight.algebra (N.Network.graph (N.Network.means network.now)).sites site (state book.old) result (state book.new) }
@@ -53,9 +52,9 @@ pub fn name<'a, N: Network>(
 }
 
 // Takes the name of a hub from a site, and answers how many hubs are left.
-pub fn unname<'a, N: Network>(
+pub fn unname<N: Network>(
     network: &N,
-    book: &mut Book<'a, N::W>,
+    book: &mut Book<'_, N::W>,
     site: u32,
 ) -> Result<u32, IndexFault>
     ensures { Unnamed N.W.Weight.algebra (N.Network.graph (N.Network.means network.now)).sites site (state book.old) result (state book.new) }
@@ -66,9 +65,9 @@ pub fn unname<'a, N: Network>(
 
 // Fills the book with the tables for the hubs named and the links that stand, whatever it held, and answers how many
 // entries the balls have. It searches over the waiting places, of which the first, one for each site, are blank afterwards.
-pub fn build<'a, N: Network>(
+pub fn build<N: Network>(
     network: &N,
-    book: &mut Book<'a, N::W>,
+    book: &mut Book<'_, N::W>,
     waiting: &mut [Waiting<N::W>],
 ) -> Result<u32, IndexFault>
     ensures { Built N.W.Weight.algebra (N.Network.graph (N.Network.means network.now)) waiting.old (state book.old) result waiting.new (state book.new) }
@@ -77,14 +76,14 @@ pub fn build<'a, N: Network>(
     if waiting.len() < book.sites() as usize {
         return Err(IndexFault::TooShort(waiting.len() as u32));
     }
-    build_book(network, book, waiting)
+    book.build(network, waiting)
 }
 
-// The figure of two sites and its manner: 0 for a site and itself, 1 for a meeting, 2 for a hub. It is refused where no
-// build stands, and where no walk joins the two. Network and book are left as they are.
-pub fn figure<'a, N: Network>(
+// The figure of two sites and its manner, by a rule of the project a number: 0 for a site and itself, 1 for a meeting,
+// 2 for a hub. It is refused where no build stands, and where no walk joins the two. Network and book are left as they are.
+pub fn figure<N: Network>(
     network: &N,
-    book: &Book<'a, N::W>,
+    book: &Book<'_, N::W>,
     s: u32,
     t: u32,
 ) -> Result<(N::W, u32), IndexFault>
@@ -94,8 +93,5 @@ pub fn figure<'a, N: Network>(
     book.check_site(s)?;
     book.check_site(t)?;
     book.check_built()?;
-    match ask(network, book, s, t) {
-        Some(figure) => Ok(figure),
-        None => Err(IndexFault::Unjoined),
-    }
+    book.ask(network, s, t).ok_or(IndexFault::Unjoined)
 }

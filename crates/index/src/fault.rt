@@ -3,9 +3,10 @@ ghost use Rattle.index.specs.declared.fault.IndexFault.TheVariants.{Network};
 ghost use Rattle.std.specs.Prelude.{◌≡◌};
 
 use network::fault::NetworkFault;
+use network::sizes::SizeFault;
 
 // Why an index refuses.
-#[derive(Clone, Copy, Debug)]
+#[derive(Clone, Copy, Debug, PartialEq, Eq)]
 pub enum IndexFault {
     // The network refused.
     Network(NetworkFault),
@@ -39,6 +40,22 @@ impl From<NetworkFault> for IndexFault {
     }
 }
 
+impl SizeFault for IndexFault {
+    ghost use Rattle.index.specs.declared.fault.IndexFault.TheVariants.{TooLarge, TooShort};
+
+    ghost large = { TooLarge };
+
+    ghost small = { TooShort };
+
+    fn too_large(size: u32) -> IndexFault {
+        IndexFault::TooLarge(size)
+    }
+
+    fn too_short(length: u32) -> IndexFault {
+        IndexFault::TooShort(length)
+    }
+}
+
 impl IndexFault {
     // The number by which the refusal is known.
     pub fn number(self) -> u32
@@ -46,8 +63,7 @@ impl IndexFault {
     {
         match self {
             IndexFault::Network(fault) => fault.number(),
-            IndexFault::TooLarge(_) => 1,
-            IndexFault::TooShort(_) => 1,
+            IndexFault::TooLarge(_) | IndexFault::TooShort(_) => 1,
             IndexFault::NoSuchSite(_) => 2,
             IndexFault::HubAlready(_) => 6,
             IndexFault::HubsFull(_) => 7,
@@ -65,16 +81,15 @@ impl IndexFault {
     {
         match self {
             IndexFault::Network(fault) => fault.detail(),
-            IndexFault::TooLarge(size) => size,
-            IndexFault::TooShort(length) => length,
-            IndexFault::NoSuchSite(site) => site,
-            IndexFault::HubAlready(site) => site,
-            IndexFault::HubsFull(places) => places,
-            IndexFault::NoHub(site) => site,
-            IndexFault::SitesDiffer(sites) => sites,
-            IndexFault::NotBuilt => 0,
-            IndexFault::NoRoom(site) => site,
-            IndexFault::Unjoined => 0,
+            IndexFault::TooLarge(number)
+            | IndexFault::TooShort(number)
+            | IndexFault::NoSuchSite(number)
+            | IndexFault::HubAlready(number)
+            | IndexFault::HubsFull(number)
+            | IndexFault::NoHub(number)
+            | IndexFault::SitesDiffer(number)
+            | IndexFault::NoRoom(number) => number,
+            IndexFault::NotBuilt | IndexFault::Unjoined => 0,
         }
     }
 

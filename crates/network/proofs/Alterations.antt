@@ -1,5 +1,6 @@
 -- A list of which one place was altered.
 use Rattle.std.proofs.Common.{◌≡◌, ℕ, zero, suc, ◌<◌, ◌≢◌, List, [], ◌∷◌, map, length, get_or, take, drop, set, refl, ap, le_of_suc-le-suc, not-suc-le-zero}
+use Rattle.std.proofs.lemmas.List.{get_or-set_same}
 use Rattle.network.specs.Registers.{altered}
 
 module _ {X : Type 0} (f : X → X) where
@@ -20,10 +21,14 @@ module _ {X : Type 0} (f : X → X) where
   drop-altered (suc k) zero (x ∷ xs) h = refl
   drop-altered (suc k) (suc i) (x ∷ xs) h = drop-altered k i xs (le_of_suc-le-suc h)
 
+  -- what is written at a place is what was read there, altered
+  pub set-altered : (xs : List X) (i : ℕ) (d : X) → i < length xs → set xs i (f (get_or xs i d)) ≡ altered f i xs
+  set-altered [] i d h = absurd (not-suc-le-zero h)
+  set-altered (x ∷ xs) zero d h = refl
+  set-altered (x ∷ xs) (suc i) d h = ap (λ r. x ∷ r) (set-altered xs i d (le_of_suc-le-suc h))
+
   pub get_or-altered_same : (xs : List X) (i : ℕ) (d : X) → i < length xs → get_or (altered f i xs) i d ≡ f (get_or xs i d)
-  get_or-altered_same [] i d h = absurd (not-suc-le-zero h)
-  get_or-altered_same (x ∷ xs) zero d h = refl
-  get_or-altered_same (x ∷ xs) (suc i) d h = get_or-altered_same xs i d (le_of_suc-le-suc h)
+  get_or-altered_same xs i d h = rw (← set-altered xs i d h) (get_or-set_same xs i (f (get_or xs i d)) d h)
 
   pub get_or-altered_other : (xs : List X) (i k : ℕ) (d : X) → k ≢ i → get_or (altered f i xs) k d ≡ get_or xs k d
   get_or-altered_other [] i k d h = refl
@@ -31,12 +36,6 @@ module _ {X : Type 0} (f : X → X) where
   get_or-altered_other (x ∷ xs) zero (suc k) d h = refl
   get_or-altered_other (x ∷ xs) (suc i) zero d h = refl
   get_or-altered_other (x ∷ xs) (suc i) (suc k) d h = get_or-altered_other xs i k d (λ e. h (ap suc e))
-
-  -- what is written at a place is what was read there, altered
-  pub set-altered : (xs : List X) (i : ℕ) (d : X) → i < length xs → set xs i (f (get_or xs i d)) ≡ altered f i xs
-  set-altered [] i d h = absurd (not-suc-le-zero h)
-  set-altered (x ∷ xs) zero d h = refl
-  set-altered (x ∷ xs) (suc i) d h = ap (λ r. x ∷ r) (set-altered xs i d (le_of_suc-le-suc h))
 
   -- a function that the alteration turns into another
   pub map-altered : {Y : Type 0} (h : X → Y) (g : Y → Y) → ((x : X) → h (f x) ≡ g (h x)) → (i : ℕ) (xs : List X) → map h (altered f i xs) ≡ altered g i (map h xs)

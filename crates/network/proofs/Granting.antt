@@ -1,57 +1,34 @@
 -- What the rule of a register says of a change, by its tests.
-use Rattle.std.proofs.Common.{◌≡◌, ℕ, zero, suc, ◌<◌, ◌≤◌, Bool, true, false, cond, ltb, leb, List, [], ◌∷◌, length, Ok, Err, sym, refl, ap, ◌∙◌, subst, arith}
+use Rattle.std.proofs.Common.{◌≡◌, ℕ, zero, suc, ◌<◌, ◌≤◌, Bool, true, false, cond, ltb, leb, List, [], ◌∷◌, length, Ok, refl, ap, ◌∙◌, subst, arith}
 use Rattle.std.proofs.ByRecursion.{All-push}
 use Rattle.std.proofs.lemmas.List.{length_push}
-use Rattle.std.proofs.lemmas.Bool.{cond-true, cond-false, le-leb, lt-leb, le-ltb, leb-false}
+use Rattle.std.proofs.lemmas.Bool.{cond-true, cond-false, le-ltb, leb-false}
 use Rattle.std.specs.List.{AllByRecursion}
 use Rattle.weight.specs.Algebra.{Algebra}
-use Rattle.network.specs.Registers.{Given, Meaning, Valid, altered, struck, reweighed, stands, with_link, with_given, link_rule, strike_rule, reweigh_rule, rule}
+use Rattle.network.specs.Registers.{Given, Meaning, Valid, altered, struck, reweighed, stands, with_given, link_rule, strike_rule, reweigh_rule, rule}
 use Rattle.network.specs.Rulings.{Ruling, refuse, grant, Follows}
 use Rattle.network.specs.declared.fault.NetworkFault.{NetworkFault}
-use Rattle.network.specs.declared.fault.NetworkFault.TheVariants.{LinksUsed}
 use Rattle.network.specs.declared.changes.RegisterChange.{RegisterChange}
 use Rattle.network.specs.declared.changes.RegisterChange.TheVariants as change
 use Rattle.network.proofs.Alterations.{length-altered}
 
-pub refused : {M : Type 0} (ruling : Ruling M) (before : M) (fault : NetworkFault) → ruling ≡ refuse fault → Follows ruling before (Err fault) before
-refused ruling before fault e = subst (λ x. Follows x before (Err fault) before) (sym e) (refl, refl)
-
-pub granted : {M : Type 0} (ruling : Ruling M) (before after m : M) (answer : ℕ) → ruling ≡ grant answer m → after ≡ m → Follows ruling before (Ok answer) after
-granted ruling before after m answer e is = subst (λ x. Follows x before (Ok answer) after) (sym e) (refl, is)
-
 module _ {V : Type 0} (k : Algebra V) (m : Meaning V) where
-  module _ (a b w : ℕ) (in_a : a < m.sites) (in_b : b < m.sites) (light : w ≤ 1000000) where
-    tests : (r : Ruling (Meaning V)) → cond (leb m.places (length m.given)) (refuse (LinksUsed m.places)) (grant (length m.given) (with_link m a b (k.value w))) ≡ r → link_rule k m a b w ≡ r
-    tests r e = cond-false (leb m.sites a) _ _ (lt-leb _ _ in_a) ∙ cond-false (leb m.sites b) _ _ (lt-leb _ _ in_b) ∙ cond-false (ltb 1000000 w) _ _ (le-ltb _ _ light) ∙ e
-
-    pub link_full : m.places ≤ length m.given → link_rule k m a b w ≡ refuse (LinksUsed m.places)
-    link_full h = tests _ (cond-true (leb m.places (length m.given)) _ _ (le-leb _ _ h))
-
-    link_granted : length m.given < m.places → link_rule k m a b w ≡ grant (length m.given) (with_link m a b (k.value w))
-    link_granted h = tests _ (cond-false (leb m.places (length m.given)) _ _ (lt-leb _ _ h))
-
-    pub link_follows : (n : ℕ) (v : V) (after : Meaning V) → length m.given ≡ n → n < m.places → v ≡ k.value w → after ≡ with_link m a b v → Follows (link_rule k m a b w) m (Ok n) after
-    link_follows n v after count room value is =
-        subst (λ x. Follows (link_rule k m a b w) m (Ok x) after) count
-        (granted (link_rule k m a b w) m after _ (length m.given) (link_granted (omega arith)) (is ∙ ap (with_link m a b) value))
-
   pub strike_follows : (n : ℕ) (after : Meaning V) → stands n m.given ≡ true → after ≡ with_given m (altered struck n m.given) → Follows (strike_rule m n) m (Ok n) after
-  strike_follows n after h is = granted (strike_rule m n) m after _ n (cond-true (stands n m.given) _ _ h) is
+  strike_follows n after h is = rw (cond-true (stands n m.given) _ _ h) (refl, is)
 
   pub reweigh_follows : (n w : ℕ) (v : V) (after : Meaning V) → stands n m.given ≡ true → w ≤ 1000000 → v ≡ k.value w → after ≡ with_given m (altered (reweighed v) n m.given) → Follows (reweigh_rule k m n w) m (Ok n) after
   reweigh_follows n w v after h light value is =
-      granted (reweigh_rule k m n w) m after _ n (cond-true (stands n m.given) _ _ h ∙ cond-false (ltb 1000000 w) _ _ (le-ltb _ _ light))
-      (is ∙ ap (λ x. with_given m (altered (reweighed x) n m.given)) value)
+      rw (cond-true (stands n m.given) _ _ h, cond-false (ltb 1000000 w) _ _ (le-ltb _ _ light)) (refl, is ∙ ap (λ x. with_given m (altered (reweighed x) n m.given)) value)
 
 -- ---- what is granted is valid again
 
 not_refused : {M : Type 0} (t : Bool) (fault : NetworkFault) (r : Ruling M) (answer : ℕ) (m : M) → cond t (refuse fault) r ≡ grant answer m → (t ≡ false) × (r ≡ grant answer m)
-not_refused true fault r answer m e = let z : ◌≡◌ {A = ℕ} 0 1 = cc in absurd (omega arith)
+not_refused true fault r answer m e = cc
 not_refused false fault r answer m e = (refl, e)
 
 not_refused_else : {M : Type 0} (t : Bool) (fault : NetworkFault) (r : Ruling M) (answer : ℕ) (m : M) → cond t r (refuse fault) ≡ grant answer m → r ≡ grant answer m
 not_refused_else true fault r answer m e = e
-not_refused_else false fault r answer m e = let z : ◌≡◌ {A = ℕ} 0 1 = cc in absurd (omega arith)
+not_refused_else false fault r answer m e = cc
 
 same_granted : {M : Type 0} (a b : ℕ) (m n : M) → grant a m ≡ grant b n → m ≡ n
 same_granted a b m n e = cc
@@ -62,7 +39,7 @@ all_altered P f h zero (x ∷ xs) a = (h x a.0, a.1)
 all_altered P f h (suc n) (x ∷ xs) a = (a.0, all_altered P f h n xs a.1)
 
 -- the meaning stays valid, with the same number of sites
-abbrev pub Stays : {V : Type 0} → Meaning V → Meaning V → Type 0
+abbrev Stays : {V : Type 0} → Meaning V → Meaning V → Type 0
 Stays m m' = Valid m' × (m'.sites ≡ m.sites)
 
 module _ {V : Type 0} (m : Meaning V) (valid : Valid m) where

@@ -3,10 +3,12 @@ use Rattle.std.proofs.Common.{◌≡◌, ℕ, zero, suc, ◌+◌, ◌<◌, ◌�
 use mathlib.Core.List.Memᴰ
 use mathlib.Core.List.{Memᴰ}
 use Rattle.std.specs.List.{AllByRecursion}
-use Rattle.std.proofs.lemmas.Bool.{cases_Bool, cond-true, cond-false, and_parts, and_from, and_right, or_from, or_cases, or_left, or_right, both_ways, eqb-true, eqb-false, eq-eqb, ne_eqb}
-use Rattle.network.specs.Graph.{Sound, At, back}
+use Rattle.std.proofs.lemmas.Bool.{cases_Bool, cond-true, cond-false, and_parts, and_from}
+use Rattle.std.proofs.lemmas.Bool.Decides.{nat_tests}
+use Rattle.network.specs.Graph.{Graph, Sound, At, back}
 use Rattle.network.specs.Links.{Absent, Apart}
 use Rattle.network.specs.Registers.{Given, Ended, Meaning, Valid, graph, links_from, told, touches}
+use Rattle.network.specs.Rulings.{Ruling, Lawful}
 use Rattle.network.specs.declared.link.Link.{Link}
 
 -- ---- sites that do not exist
@@ -14,21 +16,19 @@ use Rattle.network.specs.declared.link.Link.{Link}
 pub nowhere_told : {V : Type 0} (sites u i : ℕ) (xs : List (Given V)) → sites ≤ u → AllByRecursion (Ended sites) xs → links_from u i xs ≡ []
 nowhere_told sites u i [] out h = refl
 nowhere_told sites u i (x ∷ xs) out h =
-    let e = h.0 in
-    cond-false (x.standing && touches u x) _ _ (and_right x.standing _ (or_from _ _ (ne_eqb x.one u (λ s. omega (arith, e.0))) (ne_eqb x.other u (λ s. omega (arith, e.1)))))
-    ∙ nowhere_told sites u (suc i) xs out h.1
+    let more = nowhere_told sites u (suc i) xs out h.1 in grind (arith, nat_tests, h.0)
 
 -- ---- the link at a place
 
 -- x stands at place n of the list
-abbrev pub Placed : {X : Type 0} → List X → ℕ → X → Type 0
+abbrev Placed : {X : Type 0} → List X → ℕ → X → Type 0
 Placed [] n x = ⊥
 Placed (y ∷ ys) zero x = y ≡ x
 Placed (y ∷ ys) (suc n) x = Placed ys n x
 
 placed_same : {X : Type 0} (xs : List X) (n : ℕ) (x y : X) → Placed xs n x → Placed xs n y → x ≡ y
 placed_same [] n x y p q = absurd p
-placed_same (z ∷ zs) zero x y p q = sym p ∙ q
+placed_same (z ∷ zs) zero x y p q = cc
 placed_same (z ∷ zs) (suc n) x y p q = placed_same zs n x y p q
 
 placed_below : {X : Type 0} (xs : List X) (n : ℕ) (x : X) → Placed xs n x → n < length xs
@@ -44,7 +44,7 @@ placed_all P (z ∷ zs) (suc n) x p a = placed_all P zs n x p a.1
 -- ---- a link that is told, and the place that it stands at
 
 -- l is the standing link x of the list, at its place, told at the site u: its number is i more than the place
-pub record Told {V : Type 0} (u : ℕ) (l : Link V) (i : ℕ) (xs : List (Given V)) : Type 0 where
+record Told {V : Type 0} (u : ℕ) (l : Link V) (i : ℕ) (xs : List (Given V)) : Type 0 where
   pub place : ℕ
   pub item : Given V
   pub placed : Placed xs place item
@@ -65,7 +65,7 @@ told_later u i l x xs r =
       touching = r.touching;
     }
 
-pub told_at : {V : Type 0} (u i : ℕ) (l : Link V) (xs : List (Given V)) → Memᴰ l (links_from u i xs) → Told u l i xs
+told_at : {V : Type 0} (u i : ℕ) (l : Link V) (xs : List (Given V)) → Memᴰ l (links_from u i xs) → Told u l i xs
 told_at u i l [] m = absurd (Memᴰ.not-nil m)
 told_at u i l (x ∷ xs) m =
     ⊎_elim
@@ -79,7 +79,7 @@ told_at u i l (x ∷ xs) m =
     (λ f. told_later u i l x xs (told_at u (suc i) l xs (subst (λ ls. Memᴰ l ls) (cond-false (x.standing && touches u x) _ _ f) m)))
     (cases_Bool (x.standing && touches u x))
 
-pub at_told : {V : Type 0} (u i n : ℕ) (x : Given V) (xs : List (Given V)) → Placed xs n x → x.standing ≡ true → touches u x ≡ true → Memᴰ (told u (i + n) x) (links_from u i xs)
+at_told : {V : Type 0} (u i n : ℕ) (x : Given V) (xs : List (Given V)) → Placed xs n x → x.standing ≡ true → touches u x ≡ true → Memᴰ (told u (i + n) x) (links_from u i xs)
 at_told u i n x [] p s t = absurd p
 at_told u i zero x (y ∷ ys) p s t =
     let here : (y.standing && touches u y) ≡ true = and_from _ _ (ap (λ z. z.standing) p ∙ s) (ap (touches u) p ∙ t) in
@@ -113,48 +113,19 @@ marks_apart u i (x ∷ xs) =
 abbrev far : {V : Type 0} → ℕ → Given V → ℕ
 far u x = cond (eqb x.one u) x.other x.one
 
-abbrev seen : {V : Type 0} → ℕ → ℕ → V → Link V
-seen n k w = record { mark = n; far = k; weight = w }
-
--- which end the site u is
-data End {V : Type 0} (u : ℕ) (x : Given V) : Type 0 where
-  at_one : x.one ≡ u → far u x ≡ x.other → End u x
-  at_other : (x.one ≡ u → ⊥) → x.other ≡ u → far u x ≡ x.one → End u x
-
-end_of : {V : Type 0} (u : ℕ) (x : Given V) → touches u x ≡ true → End u x
-end_of u x t =
-    ⊎_elim
-    (λ e. at_one (eqb-true _ _ e) (cond-true (eqb x.one u) _ _ e))
-    (λ f. at_other (eqb-false _ _ f) (⊎_elim (λ e. absurd (both_ways _ f e)) (eqb-true _ _) (or_cases (eqb x.one u) (eqb x.other u) t)) (cond-false (eqb x.one u) _ _ f))
-    (cases_Bool (eqb x.one u))
+far_exists : {V : Type 0} (sites u : ℕ) (x : Given V) → Ended sites x → far u x < sites
+far_exists sites u x e = grind (arith, nat_tests, e.0, e.1)
 
 far_touches : {V : Type 0} (u : ℕ) (x : Given V) → touches u x ≡ true → touches (far u x) x ≡ true
-far_touches u x t =
-    elim (end_of u x t) [
-      | at_one e f ↦ or_right _ _ (eq-eqb _ _ (sym f))
-      | at_other ne e f ↦ or_left _ _ (eq-eqb _ _ (sym f))
-    ]
-
--- a site that the link touches is u or the far one, from where u is far
-ends : {V : Type 0} (u v : ℕ) (x : Given V) → touches u x ≡ true → touches v x ≡ true → (v ≡ u) ⊎ ((v ≡ far u x) × (far v x ≡ u))
-ends u v x t s =
-    elim (end_of u x t) [
-      | at_one e f ↦
-          elim (end_of v x s) [
-            | at_one e' f' ↦ inl (sym e' ∙ e)
-            | at_other ne e' f' ↦ inr (sym e' ∙ sym f, f' ∙ e)
-          ]
-      | at_other ne e f ↦
-          elim (end_of v x s) [
-            | at_one e' f' ↦ inr (sym e' ∙ sym f, f' ∙ e)
-            | at_other ne' e' f' ↦ inl (sym e' ∙ e)
-          ]
-    ]
+far_touches u x t = grind (arith, nat_tests)
 
 -- from the far site, u is far
 far_far : {V : Type 0} (u : ℕ) (x : Given V) → touches u x ≡ true → far (far u x) x ≡ u
-far_far u x t =
-    ⊎_elim (λ same. ap (λ v. far v x) same ∙ same) (λ h. h.1) (ends u (far u x) x t (far_touches u x t))
+far_far u x t = grind (arith, nat_tests)
+
+-- a site that the link touches is u or the far one, from where u is far
+ends : {V : Type 0} (u v : ℕ) (x : Given V) → touches u x ≡ true → touches v x ≡ true → (v ≡ u) ⊎ ((v ≡ far u x) × (far v x ≡ u))
+ends u v x t s = grind (arith, nat_tests)
 
 -- ---- all together
 
@@ -163,43 +134,28 @@ module _ {V : Type 0} (m : Meaning V) (valid : Valid m) where
   told_back u l at =
       let r = told_at u 0 l m.given at in
       let x = r.item in
-      let n = 0 + r.place in
       let f : l.far ≡ far u x = ap (λ k. k.far) r.is in
-      let same : back u l ≡ told (far u x) n x = ap (back u) r.is ∙ ap (λ k. seen n k x.weight) (sym (far_far u x r.touching)) in
+      let same : back u l ≡ told (far u x) (0 + r.place) x = cc (far_far u x r.touching) in
       subst (λ v. Memᴰ (back u l) (links_from v 0 m.given)) (sym f)
       (Memᴰ.cast same (at_told (far u x) 0 r.place x m.given r.placed r.standing (far_touches u x r.touching)))
 
   far_inside : (u : ℕ) (l : Link V) → At (graph m) u l → l.far < m.sites
   far_inside u l at =
       let r = told_at u 0 l m.given at in
-      let x = r.item in
-      let e : Ended m.sites x = placed_all (Ended m.sites) m.given r.place x r.placed valid.ends in
-      let f : l.far ≡ far u x = ap (λ k. k.far) r.is in
-      elim (end_of u x r.touching) [
-        | at_one _ g ↦ subst (λ k. k < m.sites) (sym (f ∙ g)) e.1
-        | at_other _ _ g ↦ subst (λ k. k < m.sites) (sym (f ∙ g)) e.0
-      ]
+      omega (arith, ap (λ k. k.far) r.is, far_exists m.sites u r.item (placed_all (Ended m.sites) m.given r.place r.item r.placed valid.ends))
 
   mark_low : (u : ℕ) (l : Link V) → At (graph m) u l → l.mark < 65536
   mark_low u l at =
       let r = told_at u 0 l m.given at in
-      let b = placed_below m.given r.place r.item r.placed in
-      let k : l.mark ≡ 0 + r.place = ap (λ k. k.mark) r.is in
-      omega (arith, valid.few, valid.few_places)
+      omega (arith, ap (λ k. k.mark) r.is, placed_below m.given r.place r.item r.placed, valid.few, valid.few_places)
 
   one : (u v : ℕ) (l k : Link V) → At (graph m) u l → At (graph m) v k → l.mark ≡ k.mark → ((v ≡ u) × (k ≡ l)) ⊎ ((v ≡ l.far) × (k ≡ back u l))
   one u v l k at_u at_v e =
       let r = told_at u 0 l m.given at_u in
       let s = told_at v 0 k m.given at_v in
-      let x = r.item in
-      let n = 0 + r.place in
       let place : s.place ≡ r.place = omega (arith, ap (λ z. z.mark) r.is, ap (λ z. z.mark) s.is) in
-      let item : s.item ≡ x = placed_same m.given r.place s.item x (subst (λ i. Placed m.given i s.item) place s.placed) r.placed in
-      let k_is : k ≡ told v n x = s.is ∙ ap (λ i. told v (0 + i) s.item) place ∙ ap (told v n) item in
-      ⊎_elim
-      (λ same. inl (same, k_is ∙ ap (λ z. told z n x) same ∙ sym r.is))
-      (λ h. inr (h.0 ∙ sym (ap (λ z. z.far) r.is), k_is ∙ ap (λ z. seen n z x.weight) h.1 ∙ sym (ap (back u) r.is)))
-      (ends u v x r.touching (ap (touches v) (sym item) ∙ s.touching))
+      let item : s.item ≡ r.item = placed_same m.given r.place s.item r.item (subst (λ i. Placed m.given i s.item) place s.placed) r.placed in
+      ⊎_elim (λ same. inl (same, cc)) (λ h. inr (cc, cc)) (ends u v r.item r.touching (ap (touches v) (sym item) ∙ s.touching))
 
   pub sound : Sound (graph m)
   sound = record {
@@ -210,3 +166,7 @@ module _ {V : Type 0} (m : Meaning V) (valid : Valid m) where
     one_link = one;
     once = λ u. marks_apart u 0 m.given;
   }
+
+-- what the graph of every network shows
+pub shown : {S M C V : Type 0} {means : S → M} {graph : M → Graph V} {Valid : M → Type 0} {rule : M → C → Ruling M} → Lawful means graph Valid rule → (net : S) → Sound (graph (means net))
+shown {means = means} lawful net = lawful.sound (means net) (lawful.valid net)

@@ -1,15 +1,13 @@
--- Checks of sizes and of the memory lent for them.
+-- Checks of sizes and of the memory lent for them. Whose fault it is, the first argument says: it makes one of a number.
 use Rattle.std.specs.Prelude.{ℕ, cond, Some, None, Ok, Err, Option, Result, nat_lt}
-use Rattle.network.specs.declared.fault.NetworkFault.{NetworkFault}
-use Rattle.network.specs.declared.fault.NetworkFault.TheVariants.{TooLarge, TooShort}
 
 -- the fault of a size, where it is over its largest
-abbrev pub over : ℕ → ℕ → Option NetworkFault
-over largest size = cond (nat_lt largest size) (Some (TooLarge size)) None
+abbrev pub over : {F : Type 0} → (ℕ → F) → ℕ → ℕ → Option F
+over fault largest size = cond (nat_lt largest size) (Some (fault size)) None
 
 -- the fault of a memory, where it is too short for its size
-abbrev pub short : ℕ → ℕ → Option NetworkFault
-short length size = cond (nat_lt length size) (Some (TooShort length)) None
+abbrev pub short : {F : Type 0} → (ℕ → F) → ℕ → ℕ → Option F
+short fault length size = cond (nat_lt length size) (Some (fault length)) None
 
 -- the first of two faults
 abbrev pub or_then : {F : Type 0} → Option F → Option F → Option F

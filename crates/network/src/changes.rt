@@ -1,7 +1,7 @@
 // The changes that each sort of network takes.
 
 // A change of a register.
-#[derive(Clone, Copy)]
+#[derive(Clone, Copy, Debug, PartialEq, Eq)]
 pub enum RegisterChange {
     // A new link between two sites, with a weight number.
     Link(u32, u32, u32),

@@ -2,7 +2,7 @@ ghost use Rattle.network.specs.Faults.{number, detail, layer};
 ghost use Rattle.std.specs.Prelude.{◌≡◌};
 
 // Why a network refuses.
-#[derive(Clone, Copy, Debug)]
+#[derive(Clone, Copy, Debug, PartialEq, Eq)]
 pub enum NetworkFault {
     // A size is over its largest: that size.
     TooLarge(u32),
@@ -24,8 +24,7 @@ impl NetworkFault {
         ensures { result ≡ number self }
     {
         match self {
-            NetworkFault::TooLarge(_) => 1,
-            NetworkFault::TooShort(_) => 1,
+            NetworkFault::TooLarge(_) | NetworkFault::TooShort(_) => 1,
             NetworkFault::NoSuchSite(_) => 2,
             NetworkFault::TooHeavy(_) => 3,
             NetworkFault::LinksUsed(_) => 4,
@@ -38,12 +37,12 @@ impl NetworkFault {
         ensures { result ≡ detail self }
     {
         match self {
-            NetworkFault::TooLarge(size) => size,
-            NetworkFault::TooShort(length) => length,
-            NetworkFault::NoSuchSite(site) => site,
-            NetworkFault::TooHeavy(weight) => weight,
-            NetworkFault::LinksUsed(places) => places,
-            NetworkFault::NoSuchLink(link) => link,
+            NetworkFault::TooLarge(given)
+            | NetworkFault::TooShort(given)
+            | NetworkFault::NoSuchSite(given)
+            | NetworkFault::TooHeavy(given)
+            | NetworkFault::LinksUsed(given)
+            | NetworkFault::NoSuchLink(given) => given,
         }
     }
 

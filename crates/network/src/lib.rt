@@ -10,6 +10,7 @@ pub mod changes;
 pub mod fault;
 pub mod lent;
 pub mod link;
+pub mod links;
 pub mod sizes;
 
 use fault::NetworkFault;

@@ -1,19 +1,17 @@
 -- The lesser of two totals is one of them, and at most each.
-use Rattle.std.proofs.Common.{◌≡◌, ℕ, true, false, ◌⊎◌, Some, None, Option, sym, ap, ◌∙◌, subst, inl, inr, ⊎_elim, arith}
+use Rattle.std.proofs.Common.{◌≡◌, ℕ, true, false, ◌⊎◌, Some, None, Option, sym, ap, ◌∙◌, subst, inl, inr, ⊎_elim}
 use Rattle.std.proofs.lemmas.Bool.{cases_Bool, cond-true, cond-false}
+use Rattle.std.proofs.lemmas.Option.{none-some}
 use Rattle.weight.specs.Algebra.{Algebra, AtMost}
 use Rattle.network.proofs.Orders.{at_most_refl, at_most_from_less}
 use Rattle.oracle.specs.Rule.{lesser}
-
-pub none_some : {A : Type 0} (x : A) → ◌≡◌ {A = Option A} None (Some x) → ⊥
-none_some x e = let z : ◌≡◌ {A = ℕ} 0 1 = cc in omega arith
 
 value_in : {V : Type 0} (p q : V × ℕ) → ◌≡◌ {A = Option (V × ℕ)} (Some p) (Some q) → p.0 ≡ q.0
 value_in p q e = let same : p ≡ q = cc in ap (λ r. r.0) same
 
 module _ {V : Type 0} (k : Algebra V) (d : V) (manner : ℕ) where
   pub lesser_one : (meeting hub : Option V) → lesser k meeting hub ≡ Some (d, manner) → (meeting ≡ Some d) ⊎ (hub ≡ Some d)
-  lesser_one None None e = absurd (none_some (d, manner) e)
+  lesser_one None None e = absurd (none-some (d, manner) e)
   lesser_one None (Some h) e = inr (ap (λ x. Some x) (value_in (h, 2) (d, manner) e))
   lesser_one (Some m) None e = inl (ap (λ x. Some x) (value_in (m, 1) (d, manner) e))
   lesser_one (Some m) (Some h) e =
@@ -45,6 +43,6 @@ module _ {V : Type 0} (k : Algebra V) (d : V) (manner : ℕ) where
 pub lesser_some : {V : Type 0} (k : Algebra V) (m h : V) → lesser k (Some m) (Some h) ≡ None → ⊥
 lesser_some k m h e =
     ⊎_elim
-    (λ (t : k.less h m ≡ true). none_some (h, 2) (sym e ∙ cond-true (k.less h m) (Some (h, 2)) (Some (m, 1)) t))
-    (λ (f : k.less h m ≡ false). none_some (m, 1) (sym e ∙ cond-false (k.less h m) (Some (h, 2)) (Some (m, 1)) f))
+    (λ (t : k.less h m ≡ true). none-some (h, 2) (sym e ∙ cond-true (k.less h m) (Some (h, 2)) (Some (m, 1)) t))
+    (λ (f : k.less h m ≡ false). none-some (m, 1) (sym e ∙ cond-false (k.less h m) (Some (h, 2)) (Some (m, 1)) f))
     (cases_Bool (k.less h m))

@@ -1,6 +1,7 @@
 -- A figure is the total of a walk, at most every walk's total added to itself, and exact below the two radii together.
 use Rattle.std.proofs.Common.{◌≡◌, ℕ, ◌<◌, Bool, true, false, not, ◌⊎◌, List, [], ◌∷◌, ◌++◌, Some, None, Option, sym, refl, ap, ◌∙◌, subst, inl, inr, ⊎_elim}
 use Rattle.std.proofs.lemmas.Bool.{true≢false}
+use Rattle.std.proofs.lemmas.Option.{none-some}
 use Rattle.weight.specs.Algebra.{Algebra, AtMost}
 use Rattle.network.specs.Graph.{Graph, Sound}
 use Rattle.network.specs.Walks.{Walk, total, Unjoined, Below}
@@ -11,7 +12,7 @@ use Rattle.oracle.specs.Laws.{together}
 use Rattle.oracle.specs.Radius.{Nearest, Radius, radius_of}
 use Rattle.oracle.specs.Rule.{Meets, Meeting, Through, HubTotal, HubTotalBy, no_wider, lesser, Totals, Figure}
 use Rattle.oracle.proofs.Crossing.{Far, crossing}
-use Rattle.oracle.proofs.Lesser.{none_some, lesser_one, lesser_meeting, lesser_hub, lesser_some}
+use Rattle.oracle.proofs.Lesser.{lesser_one, lesser_meeting, lesser_hub, lesser_some}
 use Rattle.oracle.proofs.Unique.{one_radius}
 
 not_false : (b : Bool) → not b ≡ true → b ≡ false
@@ -58,7 +59,7 @@ module _ {V : Type 0} (k : Algebra V) where
 
     -- so is a total through a hub
     through : (hubs : List ℕ) (s t : ℕ) (near : Option (ℕ × V)) (x : V) → Radius k g hubs s near → Through k g near t (Some x) → WalkOf s t x
-    through hubs s t None x r h = absurd (none_some x (sym h))
+    through hubs s t None x r h = absurd (none-some x (sym h))
     through hubs s t (Some n) x r h =
         let p = r.at.walk in
         let q = h.1.walk in (
@@ -135,11 +136,11 @@ module _ {V : Type 0} (k : Algebra V) where
         where
           no_meeting : (o : Option V) → Meeting k g s t rs rt o → (h : Option V) → lesser k o h ≡ None → (m : V) → Meets k g s t rs rt m → ⊥
           no_meeting None is h e m meets = is m meets
-          no_meeting (Some x) is None e m meets = none_some (x, 1) (sym e)
+          no_meeting (Some x) is None e m meets = none-some (x, 1) (sym e)
           no_meeting (Some x) is (Some y) e m meets = lesser_some k x y e
 
           no_hub_total : (o : Option V) (x : V) → lesser k o (Some x) ≡ None → ⊥
-          no_hub_total None x e = none_some (x, 2) (sym e)
+          no_hub_total None x e = none-some (x, 2) (sym e)
           no_hub_total (Some y) x e = lesser_some k y x e
 
       module _ (d : V) (manner : ℕ) (is : lesser k meeting hub ≡ Some (d, manner)) where

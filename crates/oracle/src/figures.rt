@@ -16,14 +16,12 @@ fn together<W: Weight>(one: Option<W>, other: Option<W>) -> Option<W>
     Some(one.add(other))
 }
 
-// Whether the total is below two radii together.
+// Whether the total is below two radii together. Two laws rest on this test; each stands on a function of its own, a rule of
+// the project.
 fn below_radii<W: Weight>(total: W, radius: Option<W>, other: Option<W>) -> bool
     ensures { result ≡ is_below W.Weight.algebra total (together W.Weight.algebra radius other) }
 {
-    match together(radius, other) {
-        None => true,
-        Some(sum) => total.below(sum),
-    }
+    together(radius, other).is_none_or(|sum| total.below(sum))
 }
 
 // Whether the total is below the two radii together. If so, every walk of this total between two different sites with these
@@ -44,13 +42,6 @@ pub fn figure_exact_below_radii<W: Weight>(total: W, radius: Option<W>, other: O
     below_radii(total, radius, other)
 }
 
-// Whether the value is at most the total added to itself.
-fn at_most_twice<W: Weight>(value: W, total: W) -> bool
-    ensures { result ≡ not (W.Weight.algebra.less (W.Weight.algebra.plus total total) value) }
-{
-    !total.add(total).below(value)
-}
-
 // Whether the figure is at most the total added to itself. It is, for every figure and the total of every walk that joins
 // its sites; and the figure is the total of such a walk.
 pub fn figure_at_most_twice_a_walk<W: Weight>(figure: W, total: W) -> bool
@@ -58,7 +49,7 @@ pub fn figure_at_most_twice_a_walk<W: Weight>(figure: W, total: W) -> bool
     ensures twice { result ≡ false → NoFigure W.Weight.algebra figure total }
     ensures walk { (manner : ℕ) → OfAWalk W.Weight.algebra figure manner }
 {
-    at_most_twice(figure, total)
+    !total.add(total).below(figure)
 }
 
 // Whether two different sites with these totals have a figure: just where a walk joins them.
@@ -70,20 +61,14 @@ pub fn figure_where_joined<W: Weight>(meeting: Option<W>, hub: Option<W>) -> boo
     lesser(meeting, hub).is_some()
 }
 
-// Whether the values are the same, of which neither is below the other then, and the manners too.
-fn same<W: Weight>(one: (W, u32), other: (W, u32)) -> bool
+// Whether two figures with their manners are the same: neither value is below the other then. They are the same, if both
+// are of the same two sites.
+pub fn figure_is_one<W: Weight>(one: (W, u32), other: (W, u32)) -> bool
     ensures same { result ≡ true → one ≡ other }
-    ensures differ { result ≡ false → one ≢ other }
+    ensures apart { result ≡ false → one ≢ other }
+    ensures differ { result ≡ false → NotBoth W.Weight.algebra one other }
 {
     let (value, manner) = one;
     let (other_value, other_manner) = other;
     !value.below(other_value) && !other_value.below(value) && manner == other_manner
-}
-
-// Whether two figures with their manners are the same. They are, if both are of the same two sites.
-pub fn figure_is_one<W: Weight>(one: (W, u32), other: (W, u32)) -> bool
-    ensures same { result ≡ true → one ≡ other }
-    ensures differ { result ≡ false → NotBoth W.Weight.algebra one other }
-{
-    same(one, other)
 }

@@ -8,32 +8,23 @@ use weight::Weight;
 pub fn no_wider<W: Weight>(one: Option<W>, other: Option<W>) -> bool
     ensures { result ≡ no_wider W.Weight.algebra one other }
 {
-    let Some(other) = other else {
-        return true;
-    };
-    match one {
-        Some(one) => !other.below(one),
-        None => false,
+    match (one, other) {
+        (_, None) => true,
+        (None, Some(_)) => false,
+        (Some(one), Some(other)) => !other.below(one),
     }
 }
 
-// The lesser of a meeting total and a hub total, with its manner: 1 for a meeting, which wins ties, 2 for a hub.
+// The lesser of a meeting total and a hub total, with its manner: 1 for a meeting, which wins ties, 2 for a hub. A rule of
+// the project has manners as numbers, beside the value.
 // A total that does not exist is left out.
 pub fn lesser<W: Weight>(meeting: Option<W>, hub: Option<W>) -> Option<(W, u32)>
     ensures { result ≡ lesser W.Weight.algebra meeting hub }
 {
-    let Some(hub) = hub else {
-        return match meeting {
-            Some(meeting) => Some((meeting, 1)),
-            None => None,
-        };
-    };
-    let Some(meeting) = meeting else {
-        return Some((hub, 2));
-    };
-    if hub.below(meeting) {
-        Some((hub, 2))
-    } else {
-        Some((meeting, 1))
+    match (meeting, hub) {
+        (Some(meeting), Some(hub)) if hub.below(meeting) => Some((hub, 2)),
+        (Some(meeting), _) => Some((meeting, 1)),
+        (None, Some(hub)) => Some((hub, 2)),
+        (None, None) => None,
     }
 }

@@ -1,6 +1,7 @@
 -- From the tables of a build, two sites get the figure of the rule.
-use Rattle.std.proofs.Common.{◌≡◌, ℕ, ◌+◌, ◌≤◌, List, length, get_or, Some, None, Option, sym, refl, ap, ◌∙◌, subst, inl, inr, ⊎_elim, arith}
+use Rattle.std.proofs.Common.{◌≡◌, ℕ, ◌+◌, ◌≤◌, List, length, get_or, Some, None, Option, sym, refl, ap, ◌∙◌, subst, inr, ⊎_elim, arith}
 use mathlib.Core.List.{Memᴰ}
+use Rattle.std.proofs.lemmas.Option.{none-some, same_Some}
 use Rattle.weight.specs.Algebra.{Algebra, AtMost}
 use Rattle.network.specs.Graph.{Graph, Sound, At}
 use Rattle.network.specs.Walks.{Distance}
@@ -8,7 +9,6 @@ use Rattle.network.specs.declared.link.Link.{Link}
 use Rattle.oracle.specs.Radius.{radius_of, InBall}
 use Rattle.oracle.specs.Rule.{Ball, Meets, Meeting, lesser, Totals}
 use Rattle.oracle.proofs.Distances.{one_distance}
-use Rattle.oracle.proofs.Lesser.{none_some}
 use Rattle.oracle.proofs.Stretch.{some_total}
 use Rattle.filling.specs.Places.{listed, blank_entry}
 use Rattle.filling.specs.Standing.{SiteStands, TablesStand}
@@ -18,7 +18,6 @@ use Rattle.filling.specs.declared.places.SitePlace.{SitePlace}
 use Rattle.query.specs.Figures.{part, MetParts, AskedRight, Right}
 use Rattle.query.specs.Hubs.{HubTold}
 use Rattle.query.specs.Meeting.{Crossing, Met}
-use Rattle.query.proofs.Meetings.{some_inside}
 use Rattle.query.proofs.Telling.{hub_total_is, few_count, part_ends, entry_in_ball, in_ball_entry, pairs, is_ball}
 
 module _ {V : Type 0} (k : Algebra V) (g : Graph V) (sound : Sound g) (few : g.sites ≤ 4096) (hubs : List ℕ) (es : List (Entry V)) (s t : ℕ) (here there : SitePlace V)
@@ -57,11 +56,11 @@ module _ {V : Type 0} (k : Algebra V) (g : Graph V) (sound : Sound g) (few : g.s
       (met.bounded e.0 meets.link e.1 (subst (λ (w : ℕ). At g w meets.link) (sym e.2) meets.there))
 
   meeting_is : (r : Option V) → Met k g (part es here) (part es there) r → Meeting k g s t here.radius there.radius r
-  meeting_is None met = λ x meets. let b = meets_bounded None met x meets in none_some b.0 b.1
+  meeting_is None met = λ x meets. let b = meets_bounded None met x meets in none-some b.0 b.1
   meeting_is (Some m) met =
       let c = met.comes m refl in (
         met_meets c.0 c.1 m c.2 c.3 c.4,
-        (λ x meets. let b = meets_bounded (Some m) met x meets in subst (λ (y : V). AtMost k y x) (sym (some_inside m b.0 b.1)) b.2),
+        (λ x meets. let b = meets_bounded (Some m) met x meets in subst (λ (y : V). AtMost k y x) (sym (same_Some m b.0 b.1)) b.2),
       )
 
   pub meeting_told : (r : Option V) → Met k g (part es here) (part es there) r → Meeting k g s t (radius_of st_s.told.near) (radius_of st_t.told.near) r
@@ -72,9 +71,6 @@ module _ {V : Type 0} (k : Algebra V) (g : Graph V) (sound : Sound g) (few : g.s
 -- the answer is right
 module _ {V : Type 0} (k : Algebra V) (g : Graph V) (sound : Sound g) (hub_list : List (Option ℕ)) (places : List (SitePlace V)) (rows : List (RowPlace V)) (es : List (Entry V)) (s t n : ℕ)
     (asked : AskedRight g.sites (length hub_list) (length places) (length rows) s t) (stand : TablesStand k g (listed hub_list) places rows es n) where
-  pub same_site : s ≡ t → (zero : V) → zero ≡ k.zero → Right k g (listed hub_list) s t (Some (zero, 0))
-  same_site e zero is = inl (e, asked.first, is, refl)
-
   right_of : (meeting hub : Option V) → Totals k g (listed hub_list) s t meeting hub → (o : Option (V × ℕ)) → lesser k meeting hub ≡ o → Right k g (listed hub_list) s t o
   right_of meeting hub two None e = some_total k g sound (listed hub_list) s t meeting hub two e
   right_of meeting hub two (Some f) e = inr (meeting, hub, two, e)

@@ -1,22 +1,19 @@
 -- Links looked at one after the other: the best total counts them all.
-use Rattle.std.proofs.Common.{◌≡◌, ℕ, ◌+◌, ◌<◌, ◌≤◌, true, false, ◌⊎◌, List, [], ◌∷◌, length, get_or, Some, None, Option, sym, refl, ap, ◌∙◌, subst, inl, inr, ⊎_elim, arith}
+use Rattle.std.proofs.Common.{◌≡◌, ℕ, ◌+◌, ◌<◌, ◌≤◌, true, false, ◌⊎◌, List, ◌∷◌, length, get_or, Some, None, Option, sym, refl, ap, ◌∙◌, subst, inl, inr, ⊎_elim, arith}
 use mathlib.Core.List.Memᴰ
 use mathlib.Core.List.{Memᴰ}
 use Rattle.std.proofs.lemmas.List.{get_or_default}
 use Rattle.std.proofs.lemmas.Bool.{cases_Bool, cases_lt, cond-true, cond-false}
+use Rattle.std.proofs.lemmas.Option.{same_Some}
 use Rattle.weight.specs.Algebra.{Algebra, AtMost}
 use Rattle.network.specs.Graph.{Graph, At}
 use Rattle.network.specs.declared.link.Link.{Link}
 use Rattle.network.proofs.Orders.{at_most_refl, at_most_trans, at_most_from_less}
-use Rattle.oracle.proofs.Lesser.{none_some}
 use Rattle.shortest.proofs.Searching.{at_place}
 use Rattle.shortest.proofs.Settled.{mem_place}
 use Rattle.filling.specs.declared.places.Entry.{Entry}
 use Rattle.query.specs.Lookup.{FoundIn}
 use Rattle.query.specs.Meeting.{least_of, Crossing, Bounded, NoWorse, MetOver, Met}
-
-pub some_inside : {A : Type 0} (x y : A) → ◌≡◌ {A = Option A} (Some x) (Some y) → x ≡ y
-some_inside x y e = cc
 
 module _ {V : Type 0} (k : Algebra V) where
   -- ---- the lesser of two
@@ -38,9 +35,6 @@ module _ {V : Type 0} (k : Algebra V) where
       (λ (t : k.less x m ≡ true). (x, cond-true (k.less x m) (Some x) (Some m) t, at_most_from_less k x m t))
       (λ (f : k.less x m ≡ false). (m, cond-false (k.less x m) (Some x) (Some m) f, at_most_refl k m)) (cases_Bool (k.less x m)))
 
-  pub same_no_worse : (best : Option V) → NoWorse k best best
-  same_no_worse best m e = (m, e, at_most_refl k m)
-
   then_no_worse : (a b c : Option V) → NoWorse k a b → NoWorse k b c → NoWorse k a c
   then_no_worse a b c p q m e =
       let one = p m e in
@@ -55,13 +49,6 @@ module _ {V : Type 0} (k : Algebra V) where
   -- ---- one link
 
   module _ (ball : List (Entry V)) (distance : V) (l : Link V) (best : Option V) where
-    pub met_none : FoundIn ball l.far None → MetOver k ball distance (λ m. m ≡ l) best best
-    met_none none = record {
-      no_worse = same_no_worse best;
-      bounded = λ m e. subst (λ (z : Link V). Bounded k ball distance z best) (sym e) (inl none);
-      comes = λ x e. inl e;
-    }
-
     pub met_one : (rest x : V) → FoundIn ball l.far (Some rest) → x ≡ k.plus (k.plus distance l.weight) rest → (r : Option V) → r ≡ least_of k best x → MetOver k ball distance (λ m. m ≡ l) best r
     met_one rest x found is r e =
         let over : Crossing k ball distance l x = (found.0, found.1, found.2, is ∙ ap (k.plus (k.plus distance l.weight)) (sym found.3)) in
@@ -70,7 +57,7 @@ module _ {V : Type 0} (k : Algebra V) where
           bounded = λ m same. subst (λ (z : Link V). Bounded k ball distance z (least_of k best x)) (sym same) (let b = least_bound best x in inr (b.0, b.1, x, over, b.2));
           comes = λ y f.
               ⊎_elim
-              (λ (new : least_of k best x ≡ Some x). inr (l, refl, subst (Crossing k ball distance l) (some_inside x y (sym new ∙ f)) over))
+              (λ (new : least_of k best x ≡ Some x). inr (l, refl, subst (Crossing k ball distance l) (same_Some x y (sym new ∙ f)) over))
               (λ (old : least_of k best x ≡ best). inl (sym old ∙ f))
               (least_either best x);
         })
@@ -84,9 +71,6 @@ module _ {V : Type 0} (k : Algebra V) where
     pub comes : (x : V) → r ≡ Some x → (best ≡ Some x) ⊎ ((l : Link V) × Memᴰ l ls × Crossing k ball distance l x)
 
   module _ (ball : List (Entry V)) (distance : V) (ls : List (Link V)) (best : Option V) where
-    pub none_met : (left : List (Link V)) → left ≡ ls → MeetingAt ball distance ls left best best
-    none_met left e = record { no_worse = same_no_worse best; bounded = λ l m. inl (subst (Memᴰ l) (sym e) m); comes = λ x is. inl is }
-
     pub one_met : (l : Link V) (left left' : List (Link V)) (r r' : Option V) → left ≡ l ∷ left' → Memᴰ l ls → MeetingAt ball distance ls left best r
         → MetOver k ball distance (λ m. m ≡ l) r r' → MeetingAt ball distance ls left' best r'
     one_met l left left' r r' e there so_far now = record {
@@ -104,13 +88,6 @@ module _ {V : Type 0} (k : Algebra V) where
           (now.comes x is);
     }
 
-    pub all_met : (left : List (Link V)) (r : Option V) → left ≡ [] → MeetingAt ball distance ls left best r → MetOver k ball distance (λ l. Memᴰ l ls) best r
-    all_met left r none so_far = record {
-      no_worse = so_far.no_worse;
-      bounded = λ l among. ⊎_elim (λ (a : Memᴰ l left). absurd (Memᴰ.not-nil (subst (Memᴰ l) none a))) (λ (b : Bounded k ball distance l r). b) (so_far.bounded l among);
-      comes = so_far.comes;
-    }
-
   -- ---- the sites of a ball
 
   module _ (g : Graph V) (ball other : List (Entry V)) where
@@ -118,9 +95,6 @@ module _ {V : Type 0} (k : Algebra V) where
     pub record MeetingOver (n : ℕ) (r : Option V) : Type 0 where
       pub bounded : (i : ℕ) (d : Entry V) (l : Link V) → i < n → At g (get_or ball i d).site l → Bounded k other (get_or ball i d).distance l r
       pub comes : (x : V) → r ≡ Some x → (e : Entry V) × (l : Link V) × Memᴰ e ball × At g e.site l × Crossing k other e.distance l x
-
-    pub no_site : MeetingOver 0 None
-    no_site = record { bounded = λ i d l lt there. absurd (omega arith); comes = λ x is. absurd (none_some x is) }
 
     pub one_site : (n : ℕ) (e : Entry V) (r r' : Option V) → n < length ball → e ≡ get_or ball n e → MeetingOver n r → MetOver k other e.distance (At g e.site) r r' → MeetingOver (n + 1) r'
     one_site n e r r' inside read so_far now = record {

@@ -1,56 +1,57 @@
--- The place of a hub in the hub list, and the total through it.
-use Rattle.std.proofs.Common.{◌≡◌, ℕ, ◌+◌, ◌<◌, ◌≤◌, List, [], ◌∷◌, ◌++◌, length, get_or, take, drop, Some, None, Option, sym, refl, ap, ◌∙◌, subst, ⊎_elim, arith}
-use mathlib.Core.List.Memᴰ
-use mathlib.Core.List.{Memᴰ}
-use Rattle.std.proofs.lemmas.List.{length-append, length_push, length-take-le, get_or_at, get_or_default, take_more, drop_more, take-append-drop}
+-- The place of a hub in the hub list, and what is read in its row.
+use Rattle.std.proofs.Common.{◌≡◌, ℕ, ◌+◌, ◌*◌, ◌<◌, ◌≤◌, List, [], ◌∷◌, length, get_or, Some, None, Option, Bor, MatchOption, sym, ap, subst, arith}
+use denote.Param.Members.{Mut}
+use Rattle.std.specs.Fn.{Called}
+use Rattle.std.specs.Iterator.Adapters.{map_while_source, map_while_callee, map_while_steps}
+use Rattle.std.specs.List.{AllWithin, HoldsAt}
+use Rattle.std.specs.Slice.Iter.{iter_rest}
+use Rattle.std.proofs.iter.Yields.{fronts}
+use Rattle.std.proofs.lemmas.Iterator.{YieldsList}
+use Rattle.std.proofs.lemmas.Iterator.Consumers.{YieldsList-from_shown}
+use Rattle.std.proofs.lemmas.List.{get_or_default}
+use Rattle.std.proofs.lemmas.Nat.{mul-add-lt}
+use Rattle.shortest.proofs.Settled.{mem_place}
 use Rattle.filling.specs.Places.{listed, blank_row}
 use Rattle.filling.specs.declared.places.RowPlace.{RowPlace}
-use Rattle.filling.proofs.Rowing.{listed_append, listed_to_blank, listed_to_end}
 use Rattle.query.specs.Hubs.{Placed}
 
-module _ (xs : List (Option ℕ)) (hub : ℕ) where
-  -- the first n places have a hub each, and none is the one that is sought
-  pub record Passed (n : ℕ) : Type 0 where
-    pub named : length (listed (take n xs)) ≡ n
-    pub absent : Memᴰ hub (listed (take n xs)) → ⊥
+-- no more hubs are listed than there are places
+few_listed : (xs : List (Option ℕ)) → length (listed xs) ≤ length xs
+few_listed [] = omega arith
+few_listed (None ∷ xs) = omega arith
+few_listed (Some h ∷ xs) = omega (arith, few_listed xs)
 
-  pub none_passed : Passed 0
-  none_passed = record { named = refl; absent = λ m. Memᴰ.not-nil m }
+-- what a list with this first place lists
+listed_front : (place : Option ℕ) (xs ys : List (Option ℕ)) → xs ≡ place ∷ ys → MatchOption place (length (listed xs) ≡ 0) (λ h. listed xs ≡ h ∷ listed ys)
+listed_front None xs ys e = ap (λ zs. length (listed zs)) e
+listed_front (Some h) xs ys e = ap listed e
 
-  module _ (n : ℕ) (p : Passed n) where
-    pub not_before_blank : n < length xs → get_or xs n None ≡ None → Placed xs hub None
-    not_before_blank lt blank m = p.absent (subst (Memᴰ hub) (listed_to_blank xs n lt blank) m)
+module _ {F : Type 0} (g : Mut F (Bor (Option ℕ) × Unit {0}) (Option ℕ)) (same : (f : F) (x : Bor (Option ℕ)) (r : Option ℕ) (q : F) → Called g f (x, tt) r q → r ≡ x.now) where
+  -- one turn of a chain that maps hub places to themselves while they have a hub
+  turn : (P Q : Type 0) (o : Option (Bor (Option ℕ))) (xs ys : List (Option ℕ)) (f q : F) (r : Option ℕ) → MatchOption o ((length xs ≡ 0) × P) (λ x. xs ≡ x.now ∷ ys) → MatchOption o ((r ≡ None) × Q) (λ x. Called g f (x, tt) r q)
+      → MatchOption r (length (listed xs) ≡ 0) (λ h. listed xs ≡ h ∷ listed ys)
+  turn P Q None xs ys f q r none is = subst (λ r. MatchOption r (length (listed xs) ≡ 0) (λ h. listed xs ≡ h ∷ listed ys)) (sym is.0) (omega (arith, few_listed xs, none.0))
+  turn P Q (Some x) xs ys f q r front call = subst (λ r. MatchOption r (length (listed xs) ≡ 0) (λ h. listed xs ≡ h ∷ listed ys)) (sym (same f x r q call)) (listed_front x.now xs ys front)
 
-    pub not_to_end : length xs ≤ n → Placed xs hub None
-    not_to_end le m = p.absent (subst (Memᴰ hub) (listed_to_end xs n le) m)
+  -- it yields the hubs of the list
+  pub yields_listed : {s : _} (xs : List (Option ℕ)) → iter_rest (map_while_source s) ≡ xs → YieldsList (map_while_steps fronts g) (λ (h : ℕ). h) s (listed xs)
+  yields_listed {s} xs e =
+      subst (λ zs. YieldsList (map_while_steps fronts g) (λ (h : ℕ). h) s (listed zs)) e
+      (YieldsList-from_shown (map_while_steps fronts g) (λ h. h) (λ u. listed (iter_rest (map_while_source u)))
+      (λ u t h. turn _ _ h.0 (iter_rest (map_while_source u)) (iter_rest (map_while_source t)) (map_while_callee u) (map_while_callee t) None h.1 h.2)
+      (λ u x t h. turn _ _ h.0 (iter_rest (map_while_source u)) (iter_rest (map_while_source t)) (map_while_callee u) (map_while_callee t) (Some x) h.1 h.2) s)
 
-    module _ (h : ℕ) (lt : n < length xs) (is : get_or xs n None ≡ Some h) where
-      full : length (listed (take n xs)) ≡ length (take n xs)
-      full = p.named ∙ sym (length-take-le n xs (omega arith))
+-- the first place of the hub in the list, or that it is at none
+pub placed : (xs : List (Option ℕ)) (hub : ℕ) (r : Option ℕ)
+    → MatchOption r (AllWithin (λ h. h ≡ hub → ⊥) (listed xs) 0 (length (listed xs))) (λ at. (at < length (listed xs)) × HoldsAt (λ h. h ≡ hub) (listed xs) at × AllWithin (λ h. h ≡ hub → ⊥) (listed xs) 0 at)
+    → Placed xs hub r
+placed xs hub None absent = λ m. let at = mem_place hub (listed xs) m in absent at.0 hub (omega arith) at.1 (at.2 hub)
+placed xs hub (Some at) h = (omega (arith, few_listed xs, h.0), h.0, h.1)
 
-      pub passed_more : (h ≡ hub → ⊥) → Passed (n + 1)
-      passed_more ne = record {
-        named = ap length more ∙ length_push (listed (take n xs)) h ∙ ap (λ m. m + 1) p.named;
-        absent = λ m.
-            ⊎_elim (λ (a : Memᴰ hub (listed (take n xs))). p.absent a) (λ (a : Memᴰ hub (h ∷ [])). ne (sym (Memᴰ.eq_of_singleton a)))
-            (Memᴰ.append_cases (listed (take n xs)) (subst (Memᴰ hub) more m));
-      }
-        where
-          more : listed (take (n + 1) xs) ≡ listed (take n xs) ++ h ∷ []
-          more = ap listed (take_more xs n None lt ∙ ap (λ o. take n xs ++ o ∷ []) is) ∙ listed_append (take n xs) (Some h ∷ []) full
+-- the place of a site in the row of a hub
+pub row_fits : (at hubs sites to rows : ℕ) → at < hubs → to < sites → rows ≡ hubs * sites → at * sites + to < rows
+row_fits at hubs sites to rows lt there all = omega (arith, mul-add-lt at sites to hubs lt there)
 
-      pub placed_here : h ≡ hub → Placed xs hub (Some n)
-      placed_here same = (
-        lt,
-        omega (arith, ap length split, length-append (listed (take n xs)) (h ∷ listed (drop (n + 1) xs)), p.named),
-        (λ d. ap (λ ys. get_or ys n d) split ∙ get_or_at (listed (take n xs)) h (listed (drop (n + 1) xs)) d n p.named ∙ same),
-      )
-        where
-          split : listed xs ≡ listed (take n xs) ++ h ∷ listed (drop (n + 1) xs)
-          split =
-              ap listed (sym (take-append-drop n xs) ∙ ap (λ ys. take n xs ++ ys) (drop_more xs n None lt ∙ ap (λ o. o ∷ drop (n + 1) xs) is))
-              ∙ listed_append (take n xs) (Some h ∷ drop (n + 1) xs) full
-
--- what was read in a row, with any default
-pub row_distance : {V : Type 0} (rows : List (RowPlace V)) (i : ℕ) (p : RowPlace V) → i < length rows → p ≡ get_or rows i p → (get_or rows i blank_row).distance ≡ p.distance
-row_distance rows i p lt read = ap (λ (x : RowPlace _). x.distance) (get_or_default rows i blank_row p lt ∙ sym read)
+-- the distance in a row place, with any default
+pub row_distance : {V : Type 0} (rows : List (RowPlace V)) (i : ℕ) (p : RowPlace V) → i < length rows → (get_or rows i blank_row).distance ≡ (get_or rows i p).distance
+row_distance rows i p lt = ap (λ (x : RowPlace _). x.distance) (get_or_default rows i blank_row p lt)

@@ -26,9 +26,6 @@ module _ {V : Type 0} (ball : List (Entry V)) where
     whole = λ j d lt inside. absurd (omega arith);
   }
 
-  pub all_tabled : (table : List ℕ) (n : ℕ) → length ball ≤ n → Tabulating ball n table → Tabled ball table
-  all_tabled table n all t = record { size = t.size; inside = t.inside; named = t.named; whole = λ j d lt inside. t.whole j d (omega arith) inside }
-
   module _ (n : ℕ) (table : List ℕ) (t : Tabulating ball n table) (inside : n < length ball) (e : Entry V) (read : e ≡ get_or ball n e) where
     here : (d : Entry V) → (get_or ball n d).site ≡ e.site
     here d = ap (λ x. x.site) (get_or_default ball n d e inside ∙ sym read)

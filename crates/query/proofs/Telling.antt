@@ -4,6 +4,7 @@ use mathlib.Core.List.Memᴰ
 use mathlib.Core.List.{Memᴰ}
 use Rattle.std.proofs.lemmas.List.{length-take-le, length-drop}
 use Rattle.std.proofs.lemmas.Bool.{cases_lt}
+use Rattle.std.proofs.lemmas.Option.{none-some, same_Some}
 use Rattle.weight.specs.Algebra.{Algebra}
 use Rattle.network.specs.Graph.{Graph}
 use Rattle.network.specs.Walks.{Distance, Unjoined, Below}
@@ -11,7 +12,6 @@ use Rattle.network.proofs.Closing.{end_exists}
 use Rattle.oracle.specs.Radius.{Radius, radius_of, hub_of, InBall}
 use Rattle.oracle.specs.Rule.{Ball, Through, HubTotal, HubTotalBy, no_wider}
 use Rattle.oracle.proofs.Distances.{one_distance}
-use Rattle.oracle.proofs.Lesser.{none_some}
 use Rattle.shortest.specs.Finding.{Found, source_label}
 use Rattle.shortest.specs.declared.waiting.Label.{Label}
 use Rattle.shortest.proofs.Pigeons.{crowded}
@@ -26,7 +26,6 @@ use Rattle.filling.proofs.Counting.{more_entries}
 use Rattle.filling.proofs.Parts.{get_d_part}
 use Rattle.query.specs.Figures.{part}
 use Rattle.query.specs.Hubs.{Placed, ThroughTold, no_radius, no_hub, unlisted, unreached, reached, HubTold, HubToldBy}
-use Rattle.query.proofs.Meetings.{some_inside}
 
 -- ---- the hub total
 
@@ -38,7 +37,7 @@ module _ {V : Type 0} (k : Algebra V) (g : Graph V) (hub_list : List (Option ℕ
         → (labels : List (Label V)) × Found k g near.0 None labels × RowStands g near.0 labels to (get_or rows (at * g.sites + to) blank_row)
     row_of near hub at is known placed =
         let row = stand at 0 placed.1 in
-        let same : get_or (listed hub_list) at 0 ≡ near.0 = placed.2 0 ∙ some_inside hub near.0 (sym is ∙ known) in
+        let same : get_or (listed hub_list) at 0 ≡ near.0 = placed.2 0 ∙ same_Some hub near.0 (sym is ∙ known) in
         (row.labels, subst (λ (h : ℕ). Found k g h None row.labels) same row.found, subst (λ (h : ℕ). RowStands g h row.labels to (get_or rows (at * g.sites + to) blank_row)) same (row.row to blank_row there))
 
     through_is : (near : Option (ℕ × V)) → Radius k g (listed hub_list) v near → p.radius ≡ radius_of near → p.hub ≡ hub_of near → (r : Option V) → ThroughTold k hub_list rows g.sites p to r → Through k g near to r
@@ -46,16 +45,16 @@ module _ {V : Type 0} (k : Algebra V) (g : Graph V) (hub_list : List (Option ℕ
     through_is None rad er eh r (no_hub a e) = e
     through_is None rad er eh r (unlisted hub a b e) = e
     through_is None rad er eh r (unreached hub at a b c e) = e
-    through_is None rad er eh r (reached radius hub at rest a b c d e) = absurd (none_some radius (sym er ∙ a))
-    through_is (Some near) rad er eh r (no_radius a e) = absurd (none_some near.1 (sym a ∙ er))
-    through_is (Some near) rad er eh r (no_hub a e) = absurd (none_some near.0 (sym a ∙ eh))
-    through_is (Some near) rad er eh r (unlisted hub a b e) = absurd (b (subst (λ (h : ℕ). Memᴰ h (listed hub_list)) (some_inside near.0 hub (sym eh ∙ a)) rad.is_hub))
+    through_is None rad er eh r (reached radius hub at rest a b c d e) = absurd (none-some radius (sym er ∙ a))
+    through_is (Some near) rad er eh r (no_radius a e) = absurd (none-some near.1 (sym a ∙ er))
+    through_is (Some near) rad er eh r (no_hub a e) = absurd (none-some near.0 (sym a ∙ eh))
+    through_is (Some near) rad er eh r (unlisted hub a b e) = absurd (b (subst (λ (h : ℕ). Memᴰ h (listed hub_list)) (same_Some near.0 hub (sym eh ∙ a)) rad.is_hub))
     through_is (Some near) rad er eh r (unreached hub at a b c e) =
         subst (Through k g (Some near) to) (sym e)
         (let row = row_of near hub at a eh b in
         ⊎_elim
         (λ (x : (l : Label V) × Memᴰ l row.0 × (l.site ≡ to) × (get_or rows (at * g.sites + to) blank_row ≡ record { distance = Some l.distance; before = l.before; mark = l.mark })).
-        absurd (none_some x.0.distance (sym c ∙ ap (λ (z : RowPlace V). z.distance) x.3)))
+        absurd (none-some x.0.distance (sym c ∙ ap (λ (z : RowPlace V). z.distance) x.3)))
         (λ (x : Unjoined g near.0 to × (get_or rows (at * g.sites + to) blank_row ≡ blank_row)). x.0)
         row.2)
     through_is (Some near) rad er eh r (reached radius hub at rest a b c d e) =
@@ -63,11 +62,11 @@ module _ {V : Type 0} (k : Algebra V) (g : Graph V) (hub_list : List (Option ℕ
         (let row = row_of near hub at b eh c in
         ⊎_elim
         (λ (x : (l : Label V) × Memᴰ l row.0 × (l.site ≡ to) × (get_or rows (at * g.sites + to) blank_row ≡ record { distance = Some l.distance; before = l.before; mark = l.mark })).
-        let same : rest ≡ x.0.distance = some_inside rest x.0.distance (sym d ∙ ap (λ (z : RowPlace V). z.distance) x.3) in
-        let r_same : radius ≡ near.1 = some_inside radius near.1 (sym a ∙ er) in
+        let same : rest ≡ x.0.distance = same_Some rest x.0.distance (sym d ∙ ap (λ (z : RowPlace V). z.distance) x.3) in
+        let r_same : radius ≡ near.1 = same_Some radius near.1 (sym a ∙ er) in
         let away : Distance k g near.0 to rest = subst (Distance k g near.0 to) (sym same) (subst (λ (u : ℕ). Distance k g near.0 u x.0.distance) x.2 (row.1.distances x.0 x.1).0) in
         (rest, away, ap (λ (y : V). k.plus y rest) r_same))
-        (λ (x : Unjoined g near.0 to × (get_or rows (at * g.sites + to) blank_row ≡ blank_row)). absurd (none_some rest (sym (ap (λ (z : RowPlace V). z.distance) x.1) ∙ d)))
+        (λ (x : Unjoined g near.0 to × (get_or rows (at * g.sites + to) blank_row ≡ blank_row)). absurd (none-some rest (sym (ap (λ (z : RowPlace V). z.distance) x.1) ∙ d)))
         row.2)
 
   module _ (s t : ℕ) (here there : SitePlace V) (in_s : s < g.sites) (in_t : t < g.sites) (told_s : Told k g (listed hub_list) s here) (told_t : Told k g (listed hub_list) t there) where

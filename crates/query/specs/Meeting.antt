@@ -1,15 +1,10 @@
 -- The least total over an entry of one ball, a link at its site, and an entry of another ball at the link's far site.
-use Rattle.std.specs.Prelude.{◌≡◌, ◌≤◌, cond, ◌⊎◌, List, Some, None, Option, ◌==◌}
+use Rattle.std.specs.Prelude.{◌≡◌, ◌≤◌, cond, ◌⊎◌, List, Some, None, Option}
 use mathlib.Core.List.{Memᴰ}
 use Rattle.weight.specs.Algebra.{Algebra, AtMost}
 use Rattle.network.specs.Graph.{Graph, At}
 use Rattle.network.specs.declared.link.Link.{Link}
 use Rattle.filling.specs.declared.places.Entry.{Entry}
-use Rattle.query.specs.declared.meeting.Best.{Best}
-
--- the total so far, where one was found
-abbrev pub so_far : {V : Type 0} → Best V → Option V
-so_far best = cond (best.found == 0) None (Some best.total)
 
 -- the lesser of a total so far and another one, which does not count where they are equal
 abbrev pub least_of : {V : Type 0} → Algebra V → Option V → V → Option V

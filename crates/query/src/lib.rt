@@ -2,6 +2,6 @@
 #![tactic(auto)]
 
 pub mod figure;
-pub mod hubs;
-pub mod lookup;
-pub mod meeting;
+mod hubs;
+mod lookup;
+mod meeting;

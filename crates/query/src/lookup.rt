@@ -4,31 +4,37 @@ ghost use Rattle.std.specs.Prelude.{◌≡◌, ◌≤◌, length, replicate};
 
 use filling::places::Entry;
 
-// Writes into a table of zeros, by site, the place in the ball where the site's entry is, and one more.
-pub(crate) fn tabulate<W: Copy>(table: &mut [u16], ball: &[Entry<W>])
-    requires { (table.old ≡ replicate 4096 0) × (length ball.now ≤ 4096) }
-    ensures { Tabled ball.now table.new }
-{
-    for place in 0..ball.len() {
-        let site = ball[place].site as usize;
-        if site < table.len() {
-            table[site] = place as u16 + 1;
-        }
-    }
+// A ball, and where in it the entry of each site is: the entry's place and one more, and zero for a site without one.
+// Tried with the places as an array of the struct's own: moving it made a figure take 9.24 µs, and it takes 8.51 µs so.
+#[derive(Drop)]
+pub(crate) struct BallTable<'b, W> {
+    ball: &'b [Entry<W>],
+    places: &'b [u16],
+    ghost tabled: { Tabled ball.now places.now },
 }
 
-// The distance of a site in the ball.
-pub(crate) fn look_up<W: Copy>(table: &[u16], ball: &[Entry<W>], site: u32) -> Option<W>
-    requires { Tabled ball.now table.now }
-    ensures { FoundIn ball.now site result }
-{
-    let site = site as usize;
-    if site >= table.len() {
-        return None;
+impl<'b, W: Copy> BallTable<'b, W> {
+    // The table of a ball, over places that are all zero.
+    pub(crate) fn new(ball: &'b [Entry<W>], places: &'b mut [u16]) -> BallTable<'b, W>
+        requires few { length ball.now ≤ 4096 }
+        requires zeros { places.old ≡ replicate 4096 0 }
+        ensures { result.ball.now ≡ ball.now }
+    {
+        for (place, entry) in ball.iter().enumerate() {
+            let site = entry.site as usize;
+            // Tried with `if let Some(slot) = places.get_mut(site)`: afterwards no element of the array is known.
+            if site < places.len() {
+                places[site] = place as u16 + 1;
+            }
+        }
+        BallTable { ball, places }
     }
-    let place = table[site] as usize;
-    if place == 0 {
-        return None;
+
+    // The distance of a site in the ball.
+    pub(crate) fn distance(&self, site: u32) -> Option<W>
+        ensures { FoundIn self.now.ball.now site result }
+    {
+        let place = self.places.get(site as usize)?.checked_sub(1)?;
+        Some(self.ball[place as usize].distance)
     }
-    Some(ball[place - 1].distance)
 }

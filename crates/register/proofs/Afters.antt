@@ -1,18 +1,16 @@
 -- The link that follows the one with a given mark, at a site of a register.
-use Rattle.std.proofs.Common.{◌≡◌, ℕ, zero, suc, ◌+◌, ◌<◌, ◌≤◌, true, false, cond, ◌&&◌, eqb, ◌⊎◌, List, [], ◌∷◌, map, length, get_or, take, drop, None, Option, sym, refl, ap, ◌∙◌, subst, ⊎_elim, arith, length-take-le, drop-cons}
+use Rattle.std.proofs.Common.{◌≡◌, ℕ, zero, suc, ◌+◌, ◌<◌, ◌≤◌, true, false, cond, ◌&&◌, eqb, ◌⊎◌, List, [], ◌∷◌, map, length, get_or, drop, None, Option, sym, refl, ap, ◌∙◌, ⊎_elim, arith, drop-cons}
 use Rattle.std.proofs.lemmas.List.{drop_all}
 use Rattle.std.proofs.lemmas.Bool.{cond-true, cond-false, and_left, and_right, and_from, or_from, or_left, or_right, eq-eqb, ne_eqb}
-use Rattle.register.specs.Chains.{Kept, Ones, Others, ends_of, meets, next_at, records_of}
+use Rattle.register.specs.Chains.{Ones, Others, ends_of, meets, next_at}
 use Rattle.network.specs.Links.{first, from, rest, after}
 use Rattle.network.specs.Registers.{told, links_from}
 use Rattle.network.proofs.Sound.{nowhere_told}
 use Rattle.register.specs.Validity.{ends_exist}
-use Rattle.register.specs.Memories.{given_of, meaning}
+use Rattle.register.specs.Memories.{given_of, memory_of, records_of, register_meaning}
 use Rattle.network.specs.declared.link.Link.{Link}
+use Rattle.register.specs.declared.Register.{Register}
 use Rattle.register.specs.declared.memory.LinkRecord.{LinkRecord}
-use Rattle.register.specs.declared.memory.Memory.{Memory}
-use Rattle.register.specs.declared.memory.SiteChain.{SiteChain}
-use Rattle.register.proofs.Firsts.{same_code}
 use Rattle.register.proofs.Walks.{links_on, first_on, passed_over, next_of}
 
 -- ---- the list from a mark on
@@ -60,7 +58,7 @@ module _ {V : Type 0} (rs : List (LinkRecord V)) (u m : ℕ) where
     pub after_apart : (r.one ≡ u → ⊥) × (r.other ≡ u → ⊥) → None ≡ after (links_from u 0 (map given_of rs)) m
     after_apart h = after_missing (and_right r.standing _ (or_from _ _ (ne_eqb r.one u h.0) (ne_eqb r.other u h.1)))
 
-    pub after_met : r.standing ≡ true → meets u (ends_of r) ≡ true → after (links_from u 0 (map given_of rs)) m ≡ first (links_on rs u (suc m))
+    after_met : r.standing ≡ true → meets u (ends_of r) ≡ true → after (links_from u 0 (map given_of rs)) m ≡ first (links_on rs u (suc m))
     after_met s t =
         let more = links_on rs u (suc m) in
         ap (λ l. first (rest l))
@@ -68,49 +66,16 @@ module _ {V : Type 0} (rs : List (LinkRecord V)) (u m : ℕ) where
         ∙ ap (λ l. from l m) (cond-true (r.standing && meets u (ends_of r)) (told u m (given_of r) ∷ more) more (and_from _ _ s t))
         ∙ cond-true (eqb m m) (told u m (given_of r) ∷ more) (from more m) (eq-eqb m m refl))
 
--- ---- as a register's memory has it, of which n records are given
-
-module _ {V : Type 0} (m : Memory V) (kept : Kept m) (u n : ℕ) (all : n ≡ m.used) where
-  abbrev given : List (LinkRecord V)
-  given = take n m.records.now
-
-  same : given ≡ records_of m
-  same = ap (λ k. take k m.records.now) all
-
-  pub given_length : length given ≡ m.used
-  given_length = let s = kept.sized in length-take-le n m.records.now (omega (arith, all)) ∙ all
-
-  pub chained : Ones given × Others given
-  chained = (subst (λ xs. Ones xs) (sym same) kept.ones, subst (λ xs. Others xs) (sym same) kept.others)
-
-  pub begins : (d : SiteChain) → u < m.sites → (get_or m.chains.now u d).first ≡ first_on given u 0
-  begins d lt = same_code _ _ (kept.firsts u lt d) ∙ ap (λ xs. first_on xs u 0) (sym same)
-
-  pub told_nowhere : m.sites ≤ u → links_from u 0 (meaning m).given ≡ []
-  told_nowhere out = nowhere_told m.sites u 0 (meaning m).given out (ends_exist m.sites (records_of m) kept.inside)
-
-  pub told_first : (r : Option (Link V)) → r ≡ first (links_on given u 0) → r ≡ first (links_from u 0 (meaning m).given)
-  told_first r h = h ∙ ap (λ xs. first (links_from u 0 (map given_of xs))) same
-
-  pub told_past : (mark : ℕ) → m.used ≤ mark → None ≡ after (links_from u 0 (meaning m).given) mark
-  told_past mark h = after_past given u mark (omega (arith, given_length)) ∙ ap (λ xs. after (links_from u 0 (map given_of xs)) mark) same
-
-  module _ (mark : ℕ) (r : LinkRecord V) (lt : mark < m.used) (read : r ≡ get_or given mark r) where
-    below : mark < length given
-    below = omega (arith, given_length)
-
-    pub told_struck : r.standing ≡ false → None ≡ after (links_from u 0 (meaning m).given) mark
-    told_struck h = after_struck given u mark r below read h ∙ ap (λ xs. after (links_from u 0 (map given_of xs)) mark) same
-
-    pub told_apart : (r.one ≡ u → ⊥) × (r.other ≡ u → ⊥) → None ≡ after (links_from u 0 (meaning m).given) mark
-    told_apart h = after_apart given u mark r below read h ∙ ap (λ xs. after (links_from u 0 (map given_of xs)) mark) same
-
     module _ (either : ((r.one ≡ u → ⊥) × (r.other ≡ u)) ⊎ (r.one ≡ u)) where
       met : meets u (ends_of r) ≡ true
       met = ⊎_elim (λ h. or_right _ _ (eq-eqb _ _ h.1)) (λ h. or_left _ _ (eq-eqb _ _ h)) either
 
-      pub goes_on : (at : Option ℕ) → at ≡ next_at u r → at ≡ first_on given u (suc mark)
-      goes_on at asked = asked ∙ next_of given u mark r below read met chained.0 chained.1
+      pub goes_on : Ones rs → Others rs → (at : Option ℕ) → at ≡ next_at u r → at ≡ first_on rs u (suc m)
+      goes_on ones others at asked = asked ∙ next_of rs u m r lt read met ones others
 
-      pub told_next : (next : Option (Link V)) → r.standing ≡ true → next ≡ first (links_on given u (suc mark)) → next ≡ after (links_from u 0 (meaning m).given) mark
-      told_next next s h = h ∙ sym (after_met given u mark r below read s met) ∙ ap (λ xs. after (links_from u 0 (map given_of xs)) mark) same
+      pub after_told : (next : Option (Link V)) → r.standing ≡ true → next ≡ first (links_on rs u (suc m)) → next ≡ after (links_from u 0 (map given_of rs)) m
+      after_told next s h = h ∙ sym (after_met s met)
+
+-- a site that does not exist has no links
+pub told_nowhere : {V : Type 0} (x : Register V) (u : ℕ) → x.sites ≤ u → links_from u 0 (register_meaning x).given ≡ []
+told_nowhere x u out = nowhere_told x.sites u 0 (register_meaning x).given out (ends_exist x.sites (records_of (memory_of x)) x.inside)

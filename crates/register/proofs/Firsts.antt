@@ -1,14 +1,7 @@
 -- The lowest and the highest number at a site.
 use Rattle.std.proofs.Common.{◌≡◌, ℕ, zero, suc, ◌+◌, ◌<◌, Bool, true, false, cond, ◌⊎◌, List, [], ◌∷◌, ◌++◌, length, get_or, drop, Some, None, Option, sym, refl, ap, ◌∙◌, inl, inr, ⊎_elim, le_of_suc-le-suc, not-suc-le-zero, arith}
 use Rattle.std.proofs.lemmas.Bool.{cond-true, cond-false}
-use Rattle.register.specs.Chains.{meets, first_from, last_from, or_else, code}
-
--- no two optional numbers have one code
-pub same_code : (a b : Option ℕ) → code a ≡ code b → a ≡ b
-same_code None None e = refl
-same_code None (Some j) e = absurd (omega arith)
-same_code (Some i) None e = absurd (omega arith)
-same_code (Some i) (Some j) e = let s : i ≡ j = omega arith in ap Some s
+use Rattle.register.specs.Chains.{meets, first_from, last_from, or_else}
 
 -- what is left of a list from place j on begins with the element at j
 pub record Cut {X : Type 0} (ws : List X) (j : ℕ) (x : X) (xs : List X) : Type 0 where

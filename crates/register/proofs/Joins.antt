@@ -4,10 +4,10 @@ use lib.ListN.{length-map}
 use lib.Seq.{drop-append-le}
 use Rattle.std.proofs.lemmas.List.{drop_all, get_or_append_left, get_or_push, get_or-map, length_push, drop-map}
 use Rattle.std.proofs.lemmas.Bool.{cases_lt, cases_eq, cond-true, cond-false, or_left, or_right, eq-eqb, ne_eqb}
-use Rattle.register.specs.Chains.{ends_of, meets, first_from, last_from, or_else, with_next, pointed, code}
+use Rattle.register.specs.Chains.{ends_of, meets, first_from, last_from, or_else, with_next, pointed}
 use Rattle.register.specs.declared.memory.LinkRecord.{LinkRecord}
 use Rattle.network.proofs.Alterations.{length-altered, get_or-altered_same, get_or-altered_other}
-use Rattle.register.proofs.Firsts.{same_code, or_else_empty, or_else_there, first_push, last_found, last_is}
+use Rattle.register.proofs.Firsts.{or_else_empty, or_else_there, first_push, last_found, last_is}
 
 -- one of the two sides of a record: an end, and the number that follows there
 pub record Side (V : Type 0) : Type 0 where
@@ -37,7 +37,7 @@ other_side = record {
 
 -- each record names the lowest number after its own, as `Ones` and `Others` say
 abbrev pub Nexts : {V : Type 0} → Side V → List (LinkRecord V) → Type 0
-Nexts {V} s rs = (i : ℕ) (d : LinkRecord V) → i < length rs → code (s.next (get_or rs i d)) ≡ code (first_from (s.end (get_or rs i d)) (suc i) (map ends_of (drop (suc i) rs)))
+Nexts {V} s rs = (i : ℕ) (d : LinkRecord V) → i < length rs → s.next (get_or rs i d) ≡ first_from (s.end (get_or rs i d)) (suc i) (map ends_of (drop (suc i) rs))
 
 -- the same of the records at the site u, among links with the ends es
 abbrev pub Named : {V : Type 0} → Side V → ℕ → List (ℕ × ℕ) → List (LinkRecord V) → Type 0
@@ -54,7 +54,7 @@ at_end u k es le = ap (first_from u (suc k)) (drop_all (suc k) es le)
 module _ {V : Type 0} (s : Side V) (u : ℕ) where
   pub named_of : (rs : List (LinkRecord V)) → Nexts s rs → Named s u (map ends_of rs) rs
   named_of rs h k d lt at =
-      same_code _ _ (h k d lt) ∙ ap (λ v. first_from v (suc k) (map ends_of (drop (suc k) rs))) at ∙ ap (first_from u (suc k)) (sym (drop-map ends_of (suc k) rs))
+      h k d lt ∙ ap (λ v. first_from v (suc k) (map ends_of (drop (suc k) rs))) at ∙ ap (first_from u (suc k)) (sym (drop-map ends_of (suc k) rs))
 
   -- the new record, which names no number yet
   pub named_push : (es : List (ℕ × ℕ)) (rs : List (LinkRecord V)) (r : LinkRecord V) → length es ≡ length rs → s.next r ≡ None → Named s u es rs → Named s u es (rs ++ r ∷ [])
@@ -141,4 +141,4 @@ module _ {V : Type 0} (s : Side V) (u : ℕ) where
 -- of all sites together, where each end is one of them
 pub nexts_of : {V : Type 0} (s : Side V) (sites : ℕ) (es : List (ℕ × ℕ)) (rs : List (LinkRecord V)) → map ends_of rs ≡ es → ((i : ℕ) (d : LinkRecord V) → i < length rs → s.end (get_or rs i d) < sites) → ((u : ℕ) → u < sites → Named s u es rs) → Nexts s rs
 nexts_of s sites es rs ends inside h i d lt =
-    ap code (h (s.end (get_or rs i d)) (inside i d lt) i d lt refl ∙ ap (first_from (s.end (get_or rs i d)) (suc i)) (ap (drop (suc i)) (sym ends) ∙ drop-map ends_of (suc i) rs))
+    h (s.end (get_or rs i d)) (inside i d lt) i d lt refl ∙ ap (first_from (s.end (get_or rs i d)) (suc i)) (ap (drop (suc i)) (sym ends) ∙ drop-map ends_of (suc i) rs)

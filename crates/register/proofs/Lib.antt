@@ -1,10 +1,9 @@
 pub mod Adding
 pub mod Afters
 pub mod Altering
-pub mod Ends
 pub mod Firsts
 pub mod Joins
-pub mod Same
+pub mod Keeping
 pub mod Sites
 pub mod Starts
 pub mod Walks

@@ -7,7 +7,7 @@ use Rattle.network.specs.Registers.{told, links_from}
 use Rattle.register.specs.Memories.{given_of}
 use Rattle.network.specs.declared.link.Link.{Link}
 use Rattle.register.specs.declared.memory.LinkRecord.{LinkRecord}
-use Rattle.register.proofs.Firsts.{same_code, cut, cond_some, cond_none}
+use Rattle.register.proofs.Firsts.{cut, cond_some, cond_none}
 
 -- the standing links at the site u from the number j on
 abbrev pub links_on : {V : Type 0} → List (LinkRecord V) → ℕ → ℕ → List (Link V)
@@ -76,8 +76,8 @@ all_told rs u j (Some k) h = sym (found rs u j k (sym h)).same
 -- a record names the lowest number after its own, at each of its ends
 pub next_of : {V : Type 0} (rs : List (LinkRecord V)) (u k : ℕ) (r : LinkRecord V) → k < length rs → r ≡ get_or rs k r → meets u (ends_of r) ≡ true → Ones rs → Others rs → next_at u r ≡ first_on rs u (suc k)
 next_of rs u k r lt read met ones others =
-    let one : r.next_one ≡ first_on rs r.one (suc k) = subst (λ x. x.next_one ≡ first_on rs x.one (suc k)) (sym read) (same_code _ _ (ones k r lt)) in
-    let other : r.next_other ≡ first_on rs r.other (suc k) = subst (λ x. x.next_other ≡ first_on rs x.other (suc k)) (sym read) (same_code _ _ (others k r lt)) in
+    let one : r.next_one ≡ first_on rs r.one (suc k) = subst (λ x. x.next_one ≡ first_on rs x.one (suc k)) (sym read) (ones k r lt) in
+    let other : r.next_other ≡ first_on rs r.other (suc k) = subst (λ x. x.next_other ≡ first_on rs x.other (suc k)) (sym read) (others k r lt) in
     ⊎_elim
     (λ t. cond-true (eqb r.one u) _ _ t ∙ one ∙ ap (λ v. first_on rs v (suc k)) (eqb-true _ _ t))
     (λ f.
@@ -99,9 +99,6 @@ pub record Walked {V : Type 0} (rs : List (LinkRecord V)) (u : ℕ) (start at : 
 module _ {V : Type 0} (rs : List (LinkRecord V)) (u : ℕ) (start : Option ℕ) where
   pub set_out : ((j : ℕ) × (start ≡ first_on rs u j)) → Walked rs u start start
   set_out h = record { from = h.0; chained = h.1; left = λ j e. ap first (all_told rs u j start e) }
-
-  pub come_to_end : (at : Option ℕ) → at ≡ None → Walked rs u start at → (j : ℕ) → start ≡ first_on rs u j → None ≡ first (links_on rs u j)
-  come_to_end at none w j e = ap (λ o. first (links_at rs u o)) (sym none) ∙ w.left j e
 
   module _ (at : Option ℕ) (k : ℕ) (is : at ≡ Some k) (w : Walked rs u start at) where
     here : Found rs u w.from k

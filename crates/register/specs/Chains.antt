@@ -1,10 +1,9 @@
 -- How a register finds the links of a site: a chain through the records of the links there, by ascending number.
 -- These definitions are internal to the register; its contracts speak of its meaning alone.
-use Rattle.std.specs.Prelude.{◌≡◌, ℕ, suc, ◌<◌, ◌≤◌, Bool, false, cond, ◌||◌, List, [], ◌∷◌, map, length, take, drop, Some, None, Option, ◌==◌, slice_index_or}
+use Rattle.std.specs.Prelude.{◌≡◌, ℕ, suc, ◌<◌, ◌≤◌, Bool, false, cond, ◌||◌, List, [], ◌∷◌, map, length, drop, Some, None, Option, ◌==◌, slice_index_or}
 use Rattle.network.specs.Registers.{altered}
 use Rattle.register.specs.declared.memory.LinkRecord.{LinkRecord}
 use Rattle.register.specs.declared.memory.SiteChain.{SiteChain}
-use Rattle.register.specs.declared.memory.Memory.{Memory}
 
 -- ---- ends of links, in the order of their numbers
 
@@ -65,20 +64,10 @@ reweighed_record w r = record { one = r.one; other = r.other; weight = w; standi
 
 -- ---- what the memory keeps
 
--- an optional number as a number: 0 for none, and one more for each other
-abbrev pub code : Option ℕ → ℕ
-code None = 0
-code (Some i) = suc i
-
--- the records of the links given so far
-abbrev pub records_of : {V : Type 0} → Memory V → List (LinkRecord V)
-records_of m = take m.used m.records.now
-
--- the memory holds the register's sizes
-abbrev pub Sized : {V : Type 0} → Memory V → Type 0
-Sized m =
-    (m.sites ≤ 4096) × (m.sites ≤ length m.chains.now)
-    × (m.places ≤ 16384) × (m.places ≤ length m.records.now) × (m.used ≤ m.places)
+-- the lent places hold the sizes, and no more links were given than there are places for
+abbrev pub Sized : ℕ → ℕ → ℕ → ℕ → ℕ → Type 0
+Sized sites places used site_room link_room =
+    (sites ≤ 4096) × (sites ≤ site_room) × (places ≤ 16384) × (places ≤ link_room) × (used ≤ places)
 
 -- both ends of each link exist
 abbrev pub Inside : {V : Type 0} → ℕ → List (LinkRecord V) → Type 0
@@ -86,29 +75,15 @@ Inside {V} sites rs = (i : ℕ) (d : LinkRecord V) → i < length rs → ((slice
 
 -- the chain of a site begins with the lowest number there
 abbrev pub Firsts : {V : Type 0} → ℕ → List SiteChain → List (LinkRecord V) → Type 0
-Firsts u cs rs = (d : SiteChain) → code (slice_index_or cs u d).first ≡ code (first_from u 0 (map ends_of rs))
+Firsts u cs rs = (d : SiteChain) → (slice_index_or cs u d).first ≡ first_from u 0 (map ends_of rs)
 
 -- and ends with the highest
 abbrev pub Lasts : {V : Type 0} → ℕ → List SiteChain → List (LinkRecord V) → Type 0
-Lasts u cs rs = (d : SiteChain) → code (slice_index_or cs u d).last ≡ code (last_from u 0 (map ends_of rs))
+Lasts u cs rs = (d : SiteChain) → (slice_index_or cs u d).last ≡ last_from u 0 (map ends_of rs)
 
 -- each link names the next one at its one end, and at its other end
 abbrev pub Ones : {V : Type 0} → List (LinkRecord V) → Type 0
-Ones {V} rs = (i : ℕ) (d : LinkRecord V) → i < length rs → code (slice_index_or rs i d).next_one ≡ code (first_from (slice_index_or rs i d).one (suc i) (map ends_of (drop (suc i) rs)))
+Ones {V} rs = (i : ℕ) (d : LinkRecord V) → i < length rs → (slice_index_or rs i d).next_one ≡ first_from (slice_index_or rs i d).one (suc i) (map ends_of (drop (suc i) rs))
 
 abbrev pub Others : {V : Type 0} → List (LinkRecord V) → Type 0
-Others {V} rs = (i : ℕ) (d : LinkRecord V) → i < length rs → code (slice_index_or rs i d).next_other ≡ code (first_from (slice_index_or rs i d).other (suc i) (map ends_of (drop (suc i) rs)))
-
--- all of this together, for every site
-pub record Kept {V : Type 0} (m : Memory V) : Type 0 where
-  pub sized : Sized m
-  pub inside : Inside m.sites (records_of m)
-  pub firsts : (u : ℕ) → u < m.sites → Firsts u m.chains.now (records_of m)
-  pub lasts : (u : ℕ) → u < m.sites → Lasts u m.chains.now (records_of m)
-  pub ones : Ones (records_of m)
-  pub others : Others (records_of m)
-
--- Places past the register's sizes are as they were.
-pub record Spared {V : Type 0} (before after : Memory V) : Type 0 where
-  pub chains : drop before.sites after.chains.now ≡ drop before.sites before.chains.now
-  pub records : drop before.places after.records.now ≡ drop before.places before.records.now
+Others {V} rs = (i : ℕ) (d : LinkRecord V) → i < length rs → (slice_index_or rs i d).next_other ≡ first_from (slice_index_or rs i d).other (suc i) (map ends_of (drop (suc i) rs))

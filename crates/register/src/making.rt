@@ -1,10 +1,10 @@
 // How a register is made, over memory that its user lends.
-ghost use Rattle.register.specs.Memories.{Made, Renewed, blank_record, lent, no_chain, register_meaning, size_fault};
+ghost use Rattle.register.specs.Memories.{Made, Renewed, SameReference, blank_record, lent, memory_of, no_chain, register_meaning, size_fault};
 ghost use Rattle.network.specs.Sizes.{checked};
-ghost use Rattle.std.specs.Prelude.{◌≡◌};
+ghost use Rattle.std.specs.Prelude.{◌≡◌, ◌≤◌, ◌++◌, drop, false, is_ok, length, replicate};
 
 use crate::Register;
-use crate::memory::{LinkRecord, Memory, SiteChain};
+use crate::memory::{LinkRecord, SiteChain};
 use network::fault::NetworkFault;
 use network::lent::overwrite;
 use network::sizes::{check_memory, check_size};
@@ -15,83 +15,86 @@ pub const MOST_SITES: u32 = 4096;
 
 pub const MOST_LINKS: u32 = 16384;
 
+// How many sites a register has, and how many link places.
+#[derive(Clone, Copy, Debug, PartialEq, Eq)]
+pub struct RegisterSizes {
+    pub sites: u32,
+    pub places: u32,
+}
+
 // Tests the sizes of a register and the lengths of the memory lent for it, in this order:
 // sites, their memory, link places, their memory.
 pub fn check_sizes(
-    sites: u32,
+    sizes: RegisterSizes,
     site_memory: usize,
-    places: u32,
     link_memory: usize,
 ) -> Result<(), NetworkFault>
-    ensures { result ≡ checked (size_fault sites site_memory places link_memory) }
+    ensures { result ≡ checked (size_fault sizes.sites site_memory sizes.places link_memory) }
 {
-    check_size(sites, MOST_SITES)?;
-    check_memory(site_memory, sites)?;
-    check_size(places, MOST_LINKS)?;
-    check_memory(link_memory, places)
+    check_size(sizes.sites, MOST_SITES)?;
+    check_memory(site_memory, sizes.sites)?;
+    check_size(sizes.places, MOST_LINKS)?;
+    check_memory(link_memory, sizes.places)
+}
+
+// Empties the chains of the first so many sites.
+fn empty_chains(chains: &mut [SiteChain], sites: u32)
+    requires { sites ≤ length chains.old }
+    ensures { chains.new ≡ replicate sites no_chain ++ drop sites chains.old }
+{
+    overwrite(&mut chains[..sites as usize], SiteChain::default());
 }
 
 impl<'a, W: Weight> Register<'a, W> {
     // A register of these sizes, without links; one with no sites where `check_sizes` refuses.
     pub fn new(
-        sites: u32,
-        places: u32,
+        sizes: RegisterSizes,
         chains: &'a mut [SiteChain],
         records: &'a mut [LinkRecord<W>],
     ) -> Register<'a, W>
-        ensures { Made sites places (lent chains.entry records.entry) result.memory }
+        ensures made { Made sizes.sites sizes.places (lent chains.old records.old) (memory_of result) }
+        ensures chains { SameReference chains.entry result.chains }
+        ensures records { SameReference records.entry result.records }
     {
         let mut register = Register {
-            memory: Memory {
-                sites: 0,
-                places: 0,
-                used: 0,
-                chains,
-                records,
-            },
+            sites: 0,
+            places: 0,
+            used: 0,
+            chains,
+            records,
         };
-        let _ = register.renew(sites, places);
+        let _ = register.renew(sizes);
         register
     }
 
     // Tests sizes against the register's memory, as `check_sizes` does.
-    pub fn check(&self, sites: u32, places: u32) -> Result<(), NetworkFault>
-        ensures { result ≡ checked (size_fault sites (register_meaning self.now).site_room places (register_meaning self.now).link_room) }
+    pub fn check(&self, sizes: RegisterSizes) -> Result<(), NetworkFault>
+        ensures { result ≡ checked (size_fault sizes.sites (register_meaning self.now).site_room sizes.places (register_meaning self.now).link_room) }
     {
-        check_sizes(
-            sites,
-            self.memory.chains.len(),
-            places,
-            self.memory.records.len(),
-        )
+        check_sizes(sizes, self.chains.len(), self.records.len())
     }
 
     // The register made anew over its own memory; a refusal leaves it as it was.
-    pub fn renew(&mut self, sites: u32, places: u32) -> Result<(), NetworkFault>
-        ensures { Renewed sites places self.old.memory result self.new.memory }
+    pub fn renew(&mut self, sizes: RegisterSizes) -> Result<(), NetworkFault>
+        ensures renewed { Renewed sizes.sites sizes.places (memory_of self.old) result (memory_of self.new) }
+        ensures left { is_ok result ≡ false → self.new ≡ self.old }
+        ensures chains { SameReference self.old.chains self.new.chains }
+        ensures records { SameReference self.old.records self.new.records }
     {
-        self.memory.renew(sites, places)
-    }
-}
-
-impl<'a, W: Weight> Memory<'a, W> {
-    fn renew(&mut self, sites: u32, places: u32) -> Result<(), NetworkFault>
-        ensures { Renewed sites places self.old result self.new }
-    {
-        check_sizes(sites, self.chains.len(), places, self.records.len())?;
-        overwrite(&mut self.chains[0..sites as usize], SiteChain::blank());
-        self.sites = sites;
-        self.places = places;
+        self.check(sizes)?;
+        empty_chains(self.chains, sizes.sites);
+        self.sites = sizes.sites;
+        self.places = sizes.places;
         self.used = 0;
         Ok(())
     }
 }
 
-impl<W: Weight> LinkRecord<W> {
-    // A record as memory holds it before any link: to make the memory that is lent.
-    pub fn blank() -> LinkRecord<W>
-        ensures { result ≡ blank_record W.Weight.algebra }
-    {
+// A record as memory holds it before any link: to make the memory that is lent.
+impl<W: Weight> Default for LinkRecord<W> {
+    ghost is_default = { λ record'. record' ≡ blank_record W.Weight.algebra };
+
+    fn default() -> LinkRecord<W> {
         LinkRecord {
             one: 0,
             other: 0,
@@ -103,11 +106,11 @@ impl<W: Weight> LinkRecord<W> {
     }
 }
 
-impl SiteChain {
-    // A chain with no link in it.
-    pub fn blank() -> SiteChain
-        ensures { result ≡ no_chain }
-    {
+// A chain with no link in it.
+impl Default for SiteChain {
+    ghost is_default = { λ chain. chain ≡ no_chain };
+
+    fn default() -> SiteChain {
         SiteChain {
             first: None,
             last: None,

@@ -1,7 +1,8 @@
-// The memory of a register, which its user lends.
+// The memory of a register, which its user lends. A chain goes on by the number of a record: there is no heap for nodes.
 
-// One link: its ends, its weight, whether it stands, and the next link number at either end.
-#[derive(Clone, Copy)]
+// One link: its ends, its weight, whether it stands, and the next link number at either end. A rule of the project has one
+// field struck or reweighed in place, so a struck link keeps its weight beside the flag.
+#[derive(Clone, Copy, Debug, PartialEq, Eq)]
 pub struct LinkRecord<W> {
     pub one: u32,
     pub other: u32,
@@ -12,18 +13,8 @@ pub struct LinkRecord<W> {
 }
 
 // The first and the last link number at a site.
-#[derive(Clone, Copy)]
+#[derive(Clone, Copy, Debug, PartialEq, Eq)]
 pub struct SiteChain {
     pub first: Option<u32>,
     pub last: Option<u32>,
-}
-
-// Sizes, the count of link numbers given so far, and the lent places.
-#[derive(Drop)]
-pub struct Memory<'a, W> {
-    pub sites: u32,
-    pub places: u32,
-    pub used: u32,
-    pub chains: &'a mut [SiteChain],
-    pub records: &'a mut [LinkRecord<W>],
 }

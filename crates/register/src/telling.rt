@@ -1,11 +1,11 @@
-// The questions to a register.
-ghost use Rattle.register.specs.Chains.{Kept, Ones, Others, first_from, next_at, ends_of};
-ghost use Rattle.network.specs.Links.{first, after};
-ghost use Rattle.network.specs.Registers.{graph, told, links_from};
-ghost use Rattle.register.specs.Memories.{meaning, given_of};
+// How the links of a site are told, along its chain.
+ghost use Rattle.register.specs.Chains.{Ones, Others, first_from, next_at, ends_of};
+ghost use Rattle.network.specs.Links.{first};
+ghost use Rattle.network.specs.Registers.{told, links_from};
+ghost use Rattle.register.specs.Memories.{given_of};
 ghost use Rattle.std.specs.Prelude.{◌≡◌, ℕ, map, drop};
 
-use crate::memory::{LinkRecord, Memory};
+use crate::memory::LinkRecord;
 use network::link::Link;
 use weight::Weight;
 
@@ -26,7 +26,7 @@ fn told<W: Weight>(link: LinkRecord<W>, site: u32, number: u32) -> Link<W>
 }
 
 // The next link number at the site, after the record's own.
-fn next_at<W: Weight>(link: LinkRecord<W>, site: u32) -> Option<u32>
+pub(crate) fn next_at<W: Weight>(link: LinkRecord<W>, site: u32) -> Option<u32>
     ensures { result ≡ next_at site link }
 {
     if link.one == site {
@@ -37,7 +37,7 @@ fn next_at<W: Weight>(link: LinkRecord<W>, site: u32) -> Option<u32>
 }
 
 // The first standing link of the site's chain from `start` on: struck links are passed over.
-fn standing_from<W: Weight>(
+pub(crate) fn standing_from<W: Weight>(
     records: &[LinkRecord<W>],
     site: u32,
     start: Option<u32>,
@@ -55,32 +55,4 @@ fn standing_from<W: Weight>(
         at = next_at(link, site);
     }
     None
-}
-
-impl<'a, W: Weight> Memory<'a, W> {
-    pub(crate) fn first_link(&self, site: u32) -> Option<Link<W>>
-        requires { Kept self.now }
-        ensures { result ≡ first ((graph (meaning self.now)).links site) }
-    {
-        if site >= self.sites {
-            return None;
-        }
-        let start = self.chains[site as usize].first;
-        standing_from(&self.records[0..self.used as usize], site, start)
-    }
-
-    pub(crate) fn next_link(&self, site: u32, mark: u32) -> Option<Link<W>>
-        requires { Kept self.now }
-        ensures { result ≡ after ((graph (meaning self.now)).links site) mark }
-    {
-        if site >= self.sites || mark >= self.used {
-            return None;
-        }
-        let records = &self.records[0..self.used as usize];
-        let link = records[mark as usize];
-        if !link.standing || (link.one != site && link.other != site) {
-            return None;
-        }
-        standing_from(records, site, next_at(link, site))
-    }
 }

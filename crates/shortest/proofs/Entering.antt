@@ -6,7 +6,8 @@ use Rattle.shortest.specs.declared.waiting.Label.{Label}
 use Rattle.shortest.specs.declared.waiting.Waiting.{Waiting}
 use Rattle.shortest.specs.Places.{blank_place, label_at, relabelled, put_label, put_at, Inside, Moves}
 use Rattle.shortest.specs.Order.{parent, Ordered, OrderedBut}
-use Rattle.shortest.specs.Queues.{Linked, InUse, Queued, State, Unlabelled, Offering, entered}
+use Rattle.shortest.specs.Queues.{Linked, InUse, State, Unlabelled, Offering, entered}
+use Rattle.shortest.proofs.Sound.{Queued}
 use Rattle.shortest.proofs.Edits.{some_inside}
 use Rattle.shortest.proofs.Heaps.{carried}
 use Rattle.shortest.proofs.Links.{linked_inside, laid_in, laid_long, laid_new, laid_old, laid_drop, laid_linked}
@@ -17,7 +18,7 @@ use Rattle.shortest.proofs.Sifted.{Sifted, sifted, settled_same, settled_place}
 abbrev pub queue_of : {V : Type 0} → List (Waiting V) → ℕ → ℕ → ℕ → State V
 queue_of ws sites count done = record { places = ws; sites = sites; count = count; settled = done }
 
-module _ {V : Type 0} (a : Algebra V) (ws : List (Waiting V)) (sites count done : ℕ) (q : Queued a ws sites count done) (x : Label V) (there : x.site < sites) (none : Unlabelled ws (InUse sites count done) x.site) where
+module _ {V : Type 0} {a : Algebra V} {ws : List (Waiting V)} {sites count done : ℕ} (q : Queued a ws sites count done) (x : Label V) (there : x.site < sites) (none : Unlabelled ws (InUse sites count done) x.site) where
   pub room_left : count + done < sites
   room_left = free_place ws sites count done q.linked x.site there none
 
@@ -26,9 +27,6 @@ module _ {V : Type 0} (a : Algebra V) (ws : List (Waiting V)) (sites count done 
 
   pub laid_size : length laid ≡ length ws
   laid_size = length-set ws count (relabelled (Some x) (get_or ws count blank_place))
-
-  pub site_inside : (vs : List (Waiting V)) → vs ≡ laid → x.site < length vs
-  site_inside vs wrote = omega (arith, ap length wrote, laid_size, q.fits)
 
   pub count_inside : count < length ws
   count_inside = omega (arith, room_left, q.fits)
@@ -65,7 +63,7 @@ module _ {V : Type 0} (a : Algebra V) (ws : List (Waiting V)) (sites count done 
     children = λ k k0 kn e pos. absurd (omega arith);
   }
 
-  module _ (vs us zs : List (Waiting V)) (wrote : vs ≡ laid) (pointed : us ≡ put_at vs x.site (Some count)) where
+  module _ {vs us : List (Waiting V)} (wrote : vs ≡ laid) (pointed : us ≡ put_at vs x.site (Some count)) where
     us_is : us ≡ put_in
     us_is = pointed ∙ ap (λ z. put_at z x.site (Some count)) wrote
 
@@ -77,16 +75,18 @@ module _ {V : Type 0} (a : Algebra V) (ws : List (Waiting V)) (sites count done 
         subst (λ (z : List (Waiting V)). Inside z (count + 1)) (sym us_is)
         (linked_inside put_in sites (InUse sites (count + 1) done) put_in_linked (count + 1) (λ k lt. inl lt) (omega (arith, put_in_size, q.fits)))
 
-    module _ (ordered : (n : ℕ) → count < n → OrderedBut a us n count → Ordered a zs n) (moves : Moves (count + 1) us zs) where
+    module _ {zs : List (Waiting V)} (ordered : (n : ℕ) → count < n → OrderedBut a us n count → Ordered a zs n) (moves : Moves (count + 1) us zs) where
       done_it : Sifted a sites (count + 1) done put_in zs
       done_it =
           sifted a (count + 1) sites (count + 1) done put_in zs (omega arith) (omega (arith, room_left)) (omega (arith, put_in_size, q.fits)) put_in_linked
           (subst (λ (z : List (Waiting V)). Moves (count + 1) z zs) us_is moves)
           (ordered (count + 1) (omega arith) (subst (λ (z : List (Waiting V)). OrderedBut a z (count + 1) count) (sym us_is) put_in_ordered))
 
+      pub entered_sound : Queued a zs sites (count + 1) done
+      entered_sound = done_it.queued
+
       pub entered_offering : Offering a (queue_of ws sites count done) x (queue_of zs sites (count + 1) done)
       entered_offering = record {
-        sound = done_it.queued;
         spared = record {
           sites = refl;
           size = done_it.size ∙ put_in_size;

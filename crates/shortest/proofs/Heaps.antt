@@ -1,5 +1,5 @@
 -- Single steps of sifting, over the labels by place.
-use Rattle.std.proofs.Common.{◌≡◌, ℕ, zero, suc, ◌+◌, ◌*◌, ◌<◌, ◌≤◌, true, false, List, Option, sym, refl, ap, ◌∙◌, subst, ⊎_elim, arith}
+use Rattle.std.proofs.Common.{◌≡◌, ℕ, zero, suc, ◌<◌, ◌≤◌, true, false, List, Option, sym, refl, ap, ◌∙◌, subst, ⊎_elim, arith}
 use Rattle.std.proofs.lemmas.Bool.{cases_eq}
 use Rattle.weight.specs.Algebra.{Algebra}
 use Rattle.shortest.specs.declared.waiting.Label.{Label}
@@ -57,11 +57,6 @@ module _ {V : Type 0} (a : Algebra V) where
     pub up_step : OrderedBut a us n (parent i)
     up_step = record { others = up_others; children = up_children }
 
-  -- the label is not before the one over it
-  pub settled_up : (ws : List (Waiting V)) (n i : ℕ) → false ≡ earlier a (label_at ws i) (label_at ws (parent i)) → OrderedBut a ws n i → Ordered a ws n
-  settled_up ws n i h but k k0 kn =
-      ⊎_elim (λ (e : k ≡ i). subst (λ (m : ℕ). NotBefore a ws m (parent m)) (sym e) (sym h)) (λ ne. but.others k k0 kn ne) (cases_eq k i)
-
   -- nothing under i is before it
   pub sunk : (ws : List (Waiting V)) (n i c : ℕ) → false ≡ earlier a (label_at ws c) (label_at ws i) → LeastChild a ws n i c → OrderedUnder a ws n i → Ordered a ws n
   sunk ws n i c over child under k k0 kn =
@@ -104,38 +99,6 @@ module _ {V : Type 0} (a : Algebra V) where
 
     pub down_step : OrderedUnder a us n c
     down_step = record { others = down_others; grand = down_grand }
-
-  -- the right one of the two under i
-  pub right_least : (ws : List (Waiting V)) (n i : ℕ) → 2 * i + 1 + 1 < n → true ≡ earlier a (label_at ws (2 * i + 1 + 1)) (label_at ws (2 * i + 1))
-      → LeastChild a ws n i (2 * i + 1 + 1)
-  right_least ws n i lt below = record {
-    up = omega arith;
-    after = omega arith;
-    inside = lt;
-    least = λ k k0 kn e.
-        ⊎_elim
-        (λ (z : k ≡ 2 * i + 1 + 1). subst (λ (m : ℕ). NotBefore a ws m (2 * i + 1 + 1)) (sym z) (earlier_irrefl a (label_at ws (2 * i + 1 + 1))))
-        (λ (ne : k ≡ 2 * i + 1 + 1 → ⊥).
-        let z : k ≡ 2 * i + 1 = omega arith in
-        subst (λ (m : ℕ). NotBefore a ws m (2 * i + 1 + 1)) (sym z) (earlier_asym a (label_at ws (2 * i + 1 + 1)) (label_at ws (2 * i + 1)) (sym below)))
-        (cases_eq k (2 * i + 1 + 1));
-  }
-
-  -- the left one, where the right one is missing or not before it
-  pub left_least : (ws : List (Waiting V)) (n i : ℕ) → 2 * i + 1 < n → (2 * i + 1 + 1 < n → false ≡ earlier a (label_at ws (2 * i + 1 + 1)) (label_at ws (2 * i + 1)))
-      → LeastChild a ws n i (2 * i + 1)
-  left_least ws n i lt not = record {
-    up = omega arith;
-    after = omega arith;
-    inside = lt;
-    least = λ k k0 kn e.
-        ⊎_elim
-        (λ (z : k ≡ 2 * i + 1). subst (λ (m : ℕ). NotBefore a ws m (2 * i + 1)) (sym z) (earlier_irrefl a (label_at ws (2 * i + 1))))
-        (λ (ne : k ≡ 2 * i + 1 → ⊥).
-        let z : k ≡ 2 * i + 1 + 1 = omega arith in
-        subst (λ (m : ℕ). NotBefore a ws m (2 * i + 1)) (sym z) (sym (not (omega arith))))
-        (cases_eq k (2 * i + 1));
-  }
 
   -- no label is before the first one
   front_least : (ws : List (Waiting V)) (n : ℕ) → Ordered a ws n → (b k : ℕ) → k ≤ b → k < n → NotBefore a ws k 0

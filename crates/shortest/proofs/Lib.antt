@@ -13,4 +13,5 @@ pub mod Searching
 pub mod Settled
 pub mod Settling
 pub mod Sifted
+pub mod Sound
 pub mod Turns

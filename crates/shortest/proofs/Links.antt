@@ -1,5 +1,6 @@
 -- What a trade of labels keeps of the links between places and sites.
-use Rattle.std.proofs.Common.{◌≡◌, ℕ, ◌<◌, ◌≤◌, List, length, get_or, drop, Some, sym, refl, ap, ◌∙◌, subst, inl, ⊎_elim, arith, length-set, drop-set-lt}
+use Rattle.std.proofs.Common.{◌≡◌, ℕ, ◌<◌, ◌≤◌, List, length, get_or, drop, Option, Some, None, sym, refl, ap, ◌∙◌, subst, inl, ⊎_elim, arith, length-set, drop-set-lt}
+use Rattle.std.specs.Option.{IsSomeAnd}
 use Rattle.std.proofs.lemmas.Bool.{cases_eq}
 use Rattle.shortest.specs.declared.waiting.Label.{Label}
 use Rattle.shortest.specs.declared.waiting.Waiting.{Waiting}
@@ -12,11 +13,25 @@ use Rattle.shortest.proofs.Edits.{some_inside, label_put_same, label_put_other, 
 abbrev pub laid_in : {V : Type 0} → List (Waiting V) → ℕ → Label V → List (Waiting V)
 laid_in ws p x = put_at (put_label ws p (Some x)) x.site (Some p)
 
+-- a place is linked that has the label of a site which names it
+pub links_on : {V : Type 0} (ws : List (Waiting V)) (sites k : ℕ) (x : Label V) → label_at ws k ≡ Some x → x.site < sites → place_of ws x.site ≡ Some k
+    → IsSomeAnd (label_at ws k) (λ y. (y.site < sites) × (place_of ws y.site ≡ Some k))
+links_on ws sites k x e there named = subst (λ o. IsSomeAnd o (λ y. (y.site < sites) × (place_of ws y.site ≡ Some k))) (sym e) (there, named)
+
 module _ {V : Type 0} (ws : List (Waiting V)) (sites : ℕ) (Used : ℕ → Type 0) (linked : Linked ws sites Used) where
+  -- the label at a place in use
+  pub held : (k : ℕ) → Used k → (x : Label V) × ((label_at ws k ≡ Some x) × (x.site < sites) × (place_of ws x.site ≡ Some k))
+  held k u = by (label_at ws k) refl (linked k u)
+    where
+      by : (o : Option (Label V)) → label_at ws k ≡ o → IsSomeAnd o (λ x. (x.site < sites) × (place_of ws x.site ≡ Some k))
+          → (x : Label V) × ((label_at ws k ≡ Some x) × (x.site < sites) × (place_of ws x.site ≡ Some k))
+      by None e h = absurd h
+      by (Some x) e h = (x, (e, h.0, h.1))
+
   -- the site of a label names its place
   pub of_label : (k : ℕ) (x : Label V) → Used k → label_at ws k ≡ Some x → (x.site < sites) × (place_of ws x.site ≡ Some k)
   of_label k x u e =
-      let h = linked.held k u in
+      let h = held k u in
       let same : h.0 ≡ x = some_inside h.0 x (sym h.1.0 ∙ e) in
       (subst (λ (y : Label V). y.site < sites) same h.1.1, subst (λ (y : Label V). place_of ws y.site ≡ Some k) same h.1.2)
 
@@ -47,11 +62,9 @@ module _ {V : Type 0} (ws : List (Waiting V)) (sites : ℕ) (Used : ℕ → Type
 
     -- a trade renames places
     pub swapped_linked : ((k : ℕ) → Used k → Used (trade i j k)) → Linked (swapped ws i j) sites Used
-    swapped_linked to = record {
-      held = λ k u.
-          let h = linked.held (trade i j k) (to k u) in
-          (h.0, (label_swapped ws i j (omega arith) (omega arith) k ∙ h.1.0, h.1.1, at_swapped (trade i j k) h.0 (to k u) h.1.0 ∙ ap Some (trade_trade i j k)));
-    }
+    swapped_linked to k u =
+        let h = held (trade i j k) (to k u) in
+        links_on (swapped ws i j) sites k h.0 (label_swapped ws i j (omega arith) (omega arith) k ∙ h.1.0) h.1.1 (at_swapped (trade i j k) h.0 (to k u) h.1.0 ∙ ap Some (trade_trade i j k))
 
     pub drop-swapped : drop sites (swapped ws i j) ≡ drop sites ws
     drop-swapped =
@@ -78,17 +91,17 @@ module _ {V : Type 0} (ws : List (Waiting V)) (sites : ℕ) (Used : ℕ → Type
         ∙ drop-set-lt sites ws p (relabelled (Some x) (get_or ws p blank_place)) inside
 
     pub laid_linked : Linked (laid_in ws p x) sites Used'
-    laid_linked = record {
-      held = λ k u.
-          ⊎_elim
-          (λ (e : k ≡ p).
-          (x, (ap (label_at (laid_in ws p x)) e ∙ laid_new, there, at_put_same (put_label ws p (Some x)) x.site (Some p) (omega (arith, length-set ws p (relabelled (Some x) (get_or ws p blank_place)))) ∙ ap Some (sym e))))
-          (λ (ne : k ≡ p → ⊥).
-          let o = others k u ne in
-          let h = linked.held k o.0 in
-          (h.0, (laid_old k ne ∙ h.1.0, h.1.1, at_put_other (put_label ws p (Some x)) x.site (Some p) h.0.site (o.1 h.0 h.1.0) ∙ at_put_label ws p (Some x) h.0.site ∙ h.1.2)))
-          (cases_eq k p);
-    }
+    laid_linked k u =
+        ⊎_elim
+        (λ (e : k ≡ p).
+        links_on (laid_in ws p x) sites k x (ap (label_at (laid_in ws p x)) e ∙ laid_new) there
+        (at_put_same (put_label ws p (Some x)) x.site (Some p) (omega (arith, length-set ws p (relabelled (Some x) (get_or ws p blank_place)))) ∙ ap Some (sym e)))
+        (λ (ne : k ≡ p → ⊥).
+        let o = others k u ne in
+        let h = held k o.0 in
+        links_on (laid_in ws p x) sites k h.0 (laid_old k ne ∙ h.1.0) h.1.1
+        (at_put_other (put_label ws p (Some x)) x.site (Some p) h.0.site (o.1 h.0 h.1.0) ∙ at_put_label ws p (Some x) h.0.site ∙ h.1.2))
+        (cases_eq k p)
 
 -- ---- labels below count trade places
 

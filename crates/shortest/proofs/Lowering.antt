@@ -4,17 +4,18 @@ use Rattle.std.proofs.lemmas.Bool.{cases_eq}
 use Rattle.weight.specs.Algebra.{Algebra}
 use Rattle.shortest.specs.declared.waiting.Label.{Label}
 use Rattle.shortest.specs.declared.waiting.Waiting.{Waiting}
-use Rattle.shortest.specs.Places.{blank_place, label_at, place_of, relabelled, put_label, Inside, Moves}
+use Rattle.shortest.specs.Places.{blank_place, label_at, place_of, relabelled, put_label, Moves}
 use Rattle.shortest.specs.Order.{earlier, parent, Ordered, OrderedBut}
-use Rattle.shortest.specs.Queues.{Linked, InUse, Queued, Farther, Offering, lowered}
+use Rattle.shortest.specs.Queues.{Linked, InUse, Farther, Offering, lowered}
+use Rattle.shortest.proofs.Sound.{Queued}
 use Rattle.shortest.proofs.Edits.{some_inside, label_put_same, label_put_other, at_put_label}
 use Rattle.shortest.proofs.Entering.{queue_of}
 use Rattle.shortest.proofs.Heaps.{carried}
-use Rattle.shortest.proofs.Links.{of_label, one_place, linked_inside}
+use Rattle.shortest.proofs.Links.{links_on, held, of_label, one_place}
 use Rattle.shortest.proofs.Rank.{nearer_sooner, not_trans, not_below}
 use Rattle.shortest.proofs.Sifted.{Sifted, sifted, settled_same}
 
-module _ {V : Type 0} (a : Algebra V) (ws : List (Waiting V)) (sites count done : ℕ) (q : Queued a ws sites count done) (at : ℕ) (x : Label V) (waits : at < count) (far : Farther a ws at x) where
+module _ {V : Type 0} {a : Algebra V} {ws : List (Waiting V)} {sites count done : ℕ} (q : Queued a ws sites count done) (at : ℕ) (x : Label V) (waits : at < count) (far : Farther a ws at x) where
   abbrev replaced : List (Waiting V)
   replaced = put_label ws at (Some x)
 
@@ -40,16 +41,14 @@ module _ {V : Type 0} (a : Algebra V) (ws : List (Waiting V)) (sites count done 
   old_place = of_label ws sites (InUse sites count done) q.linked at far.old (inl waits) far.here
 
   replaced_linked : Linked replaced sites (InUse sites count done)
-  replaced_linked = record {
-    held = λ k u.
-        ⊎_elim
-        (λ (e : k ≡ at).
-        (x, (ap (label_at replaced) e ∙ label_new, subst (λ (s : ℕ). s < sites) far.site old_place.0, place_same x.site ∙ ap (place_of ws) (sym far.site) ∙ old_place.1 ∙ ap Some (sym e))))
-        (λ (ne : k ≡ at → ⊥).
-        let h = q.linked.held k u in
-        (h.0, (label_old k ne ∙ h.1.0, h.1.1, place_same h.0.site ∙ h.1.2)))
-        (cases_eq k at);
-  }
+  replaced_linked k u =
+      ⊎_elim
+      (λ (e : k ≡ at).
+      links_on replaced sites k x (ap (label_at replaced) e ∙ label_new) (subst (λ (s : ℕ). s < sites) far.site old_place.0) (place_same x.site ∙ ap (place_of ws) (sym far.site) ∙ old_place.1 ∙ ap Some (sym e)))
+      (λ (ne : k ≡ at → ⊥).
+      let h = held ws sites (InUse sites count done) q.linked k u in
+      links_on replaced sites k h.0 (label_old k ne ∙ h.1.0) h.1.1 (place_same h.0.site ∙ h.1.2))
+      (cases_eq k at)
 
   sooner_now : earlier a (label_at replaced at) (label_at ws at) ≡ true
   sooner_now = ap (λ o. earlier a o (label_at ws at)) label_new ∙ ap (earlier a (Some x)) far.here ∙ nearer_sooner a x far.old far.farther
@@ -68,25 +67,19 @@ module _ {V : Type 0} (a : Algebra V) (ws : List (Waiting V)) (sites count done 
         (not_trans a (label_at ws k) (label_at ws at) (label_at ws (parent at)) (carried a _ _ (label_at ws k) (label_at ws (parent k)) refl (ap (label_at ws) (sym e)) (q.ordered k k0 kn)) (q.ordered at pos waits));
   }
 
-  module _ (vs zs : List (Waiting V)) (wrote : vs ≡ replaced) where
-    pub lowered_long : at < length vs
-    lowered_long = omega (arith, ap length wrote, replaced_size, at_inside)
-
-    pub lowered_inside : Inside vs (at + 1)
-    lowered_inside =
-        subst (λ (z : List (Waiting V)). Inside z (at + 1)) (sym wrote)
-        (linked_inside replaced sites (InUse sites count done) replaced_linked (at + 1) (λ k lt. inl (omega arith)) (omega (arith, replaced_size, q.fits)))
-
-    module _ (ordered : (n : ℕ) → at < n → OrderedBut a vs n at → Ordered a zs n) (moves : Moves (at + 1) vs zs) where
+  module _ {vs : List (Waiting V)} (wrote : vs ≡ replaced) where
+    module _ {zs : List (Waiting V)} (ordered : (n : ℕ) → at < n → OrderedBut a vs n at → Ordered a zs n) (moves : Moves (at + 1) vs zs) where
       done_it : Sifted a sites count done replaced zs
       done_it =
           sifted a (at + 1) sites count done replaced zs (omega arith) q.room (omega (arith, replaced_size, q.fits)) replaced_linked
           (subst (λ (z : List (Waiting V)). Moves (at + 1) z zs) wrote moves)
           (ordered count waits (subst (λ (z : List (Waiting V)). OrderedBut a z count at) (sym wrote) replaced_ordered))
 
+      pub lowered_sound : Queued a zs sites count done
+      lowered_sound = done_it.queued
+
       pub lowered_offering : Offering a (queue_of ws sites count done) x (queue_of zs sites count done)
       lowered_offering = record {
-        sound = done_it.queued;
         spared = record {
           sites = refl;
           size = done_it.size ∙ replaced_size;

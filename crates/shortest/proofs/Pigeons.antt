@@ -6,6 +6,7 @@ use Rattle.shortest.specs.declared.waiting.Waiting.{Waiting}
 use Rattle.shortest.specs.Places.{label_at, place_of}
 use Rattle.shortest.specs.Queues.{Linked, InUse, Unlabelled}
 use Rattle.shortest.proofs.Edits.{some_inside}
+use Rattle.shortest.proofs.Links.{held}
 
 -- f without the value m, in whose place the last value comes
 abbrev shrunk : (ℕ → ℕ) → ℕ → ℕ → ℕ
@@ -72,20 +73,20 @@ module _ {V : Type 0} (ws : List (Waiting V)) (sites count done : ℕ) (linked :
   named_last : named sites ≡ s
   named_last = cond-true (eqb sites sites) s (site_of (label_at ws sites)) (eq-eqb sites sites refl)
 
-  named_site : (k : ℕ) (lk : k < sites) → named k ≡ (linked.held k (all_used k lk)).0.site
+  named_site : (k : ℕ) (lk : k < sites) → named k ≡ (held ws sites (InUse sites count done) linked k (all_used k lk)).0.site
   named_site k lk =
-      let h = linked.held k (all_used k lk) in
+      let h = held ws sites (InUse sites count done) linked k (all_used k lk) in
       cond-false (eqb k sites) s (site_of (label_at ws k)) (ne_eqb k sites (λ z. omega arith)) ∙ site_of_some (label_at ws k) h.0 h.1.0
 
   named_here : (k : ℕ) → k < sites → (named k < sites) × (place_of ws (named k) ≡ Some k)
   named_here k lk =
-      let h = linked.held k (all_used k lk) in
+      let h = held ws sites (InUse sites count done) linked k (all_used k lk) in
       let e = named_site k lk in
       (subst (λ (v : ℕ). v < sites) (sym e) h.1.1, ap (place_of ws) e ∙ h.1.2)
 
   never : (k : ℕ) → k < sites → named k ≡ named sites → ⊥
   never k lk e =
-      let h = linked.held k (all_used k lk) in
+      let h = held ws sites (InUse sites count done) linked k (all_used k lk) in
       none k h.0 (all_used k lk) h.1.0 (sym (named_site k lk) ∙ e ∙ named_last)
 
   pub not_full : ⊥

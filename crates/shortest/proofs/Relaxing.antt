@@ -1,19 +1,17 @@
 -- The links at the site of a settled label, looked at one by one.
-use Rattle.std.proofs.Common.{◌≡◌, ℕ, ◌<◌, List, ◌∷◌, length, drop, Some, None, Option, sym, refl, ap, ◌∙◌, subst, inl, inr, ⊎_elim}
+use Rattle.std.proofs.Common.{◌≡◌, ℕ, List, [], ◌∷◌, drop, Option, sym, refl, ap, ◌∙◌, subst, inl, inr, ⊎_elim}
 use mathlib.Core.List.{Memᴰ}
 use Rattle.std.proofs.lemmas.Bool.{cases_eq}
 use Rattle.std.specs.List.{ContainsAt as Has}
 use Rattle.weight.specs.Algebra.{Algebra, AtMost}
 use Rattle.network.specs.Graph as graph
 use Rattle.network.specs.Graph.{Graph, At}
-use Rattle.network.specs.Links.{first, after, left_at}
-use Rattle.network.specs.Walks.{Below}
 use Rattle.network.specs.declared.link.Link.{Link}
-use Rattle.network.proofs.Cursors.{onward_first, left_of_first, left_parts, onward_next, less_left, told_among}
 use Rattle.network.proofs.Orders.{at_most_refl, at_most_from_less}
 use Rattle.shortest.specs.Progress.{Searching, links_of, led}
-use Rattle.shortest.specs.Queues.{State, Sound, Spared, Waits, Offering, Outcome, entered, lowered, left_waiting, left_settled, settled_of}
-use Rattle.shortest.specs.Searches.{OfferedBelow, Relaxed}
+use Rattle.shortest.specs.Queues.{State, Spared, Waits, Offering, Outcome, entered, lowered, left_waiting, left_settled, settled_of}
+use Rattle.shortest.proofs.Sound.{Sound}
+use Rattle.shortest.specs.Searches.{OfferedBelow, offered, not_below, Relaxed}
 use Rattle.shortest.specs.declared.waiting.Label.{Label}
 use Rattle.shortest.proofs.Settled.{waiting_one}
 use Rattle.shortest.proofs.Searching.{Taken, at_place, link_passed, link_offered, links_done}
@@ -37,7 +35,7 @@ module _ {V : Type 0} (k : Algebra V) where
         before = λ y w.
             ⊎_elim
             (λ (e : y.site ≡ x.site).
-            let one : old ≡ y = waiting_one k q.places q.sites q.count q.settled sound old y there w (same ∙ sym e) in
+            let one : old ≡ y = waiting_one sound old y there w (same ∙ sym e) in
             inr (e, subst (λ z. AtMost k x.distance z.distance) one (at_most_from_less k x.distance old.distance less), t.new))
             (λ (ne : y.site ≡ x.site → ⊥). inl (t.kept y w ne))
             (cases_eq y.site x.site);
@@ -68,70 +66,42 @@ module _ {V : Type 0} (k : Algebra V) (g : Graph V) (cut : Option V) (q : State 
   abbrev links : List (Link V)
   links = g.links x.site
 
-  -- the links before `link` were looked at
-  pub record UnderWay (q' : State V) (link : Option (Link V)) : Type 0 where
-    pub sound : Sound k q'
+  -- all links were looked at but those that are left
+  pub record UnderWay (q' : State V) (left : List (Link V)) : Type 0 where
     pub spared : Spared q q'
     pub settled : settled_of q' ≡ settled_of q
-    pub onward : link ≡ first (left_at links link)
+    pub among : (l : Link V) → Memᴰ l left → At g x.site l
     pub goes : (source : ℕ) → Memᴰ x (settled_of q) → ((y : Label V) → Memᴰ y (settled_of q) → AtMost k y.distance x.distance)
-        → Searching k g source cut (settled_of q) (Waits q) (links_of x links) → Searching k g source cut (settled_of q) (Waits q') (links_of x (left_at links link))
+        → Searching k g source cut (settled_of q) (Waits q) (links_of x links) → Searching k g source cut (settled_of q) (Waits q') (links_of x left)
 
-  module _ (shows : graph.Sound g) where
-    pub under_way : (link : Option (Link V)) → Sound k q → link ≡ first links → UnderWay q link
-    under_way link sound asked = record {
-      sound = sound;
-      spared = spared_same q;
-      settled = refl;
-      onward = onward_first links (shows.once x.site) link asked;
-      goes = λ source among last s. subst (λ ls. Searching k g source cut (settled_of q) (Waits q) (links_of x ls)) (sym (left_of_first links (shows.once x.site) link asked)) s;
-    }
+  module _ {q' : State V} {l : Link V} {left : List (Link V)} (u : UnderWay q' (l ∷ left)) where
+    pub link_there : At g x.site l
+    link_there = u.among l (Memᴰ.head refl)
 
-    pub link_there : (q' : State V) (link : Option (Link V)) (l : Link V) → link ≡ Some l → UnderWay q' link → At g x.site l
-    link_there q' link l is u = told_among links (shows.once x.site) link l is u.onward
+    pub one_link_more : graph.Sound g → Sound k q' → {q'' : State V} → OfferedBelow k cut q' (led k x l) q'' → UnderWay q'' left
+    one_link_more shows sound {q''} = elim [
+      | offered b o ↦ record {
+        spared = spared_on q q' q'' u.spared o.spared;
+        settled = o.settled ∙ u.settled;
+        among = fewer;
+        goes = λ source among last s.
+            link_offered k g source cut shows (settled_of q) x among last (Waits q') (Waits q'') l left (u.goes source among last s) link_there b
+            (subst (λ xs. Taken k g source cut xs (Waits q') (led k x l) (Waits q'')) u.settled (taken k source g cut q' q'' (led k x l) sound o));
+      }
+      | not_below n e ↦ subst (λ z. UnderWay z left) (sym e) (record {
+        spared = u.spared;
+        settled = u.settled;
+        among = fewer;
+        goes = λ source among last s. link_passed k g source cut shows (settled_of q) x among last (Waits q') (Waits q') l left (u.goes source among last s) n;
+      })
+    ]
+      where
+        fewer : (m : Link V) → Memᴰ m left → At g x.site m
+        fewer m h = u.among m (Memᴰ.tail h)
 
-    module _ (q' q'' : State V) (link next : Option (Link V)) (l : Link V) (is : link ≡ Some l) (u : UnderWay q' link) (asked : next ≡ after links l.mark) where
-      there : At g x.site l
-      there = link_there q' link l is u
-
-      pub fewer_left : length (left_at links next) < length (left_at links link)
-      fewer_left = less_left links (shows.once x.site) link next l is u.onward asked
-
-      pub one_link_more : OfferedBelow k cut q' (led k x l) q'' → UnderWay q'' next
-      one_link_more offered =
-          let parts : left_at links link ≡ l ∷ left_at links next = left_parts links (shows.once x.site) link next l is u.onward asked in
-          let on : next ≡ first (left_at links next) = onward_next links (shows.once x.site) link next l is u.onward asked in
-          ⊎_elim
-          (λ (o : Below k (led k x l).distance cut × Offering k q' (led k x l) q'').
-          let t : (source : ℕ) → Taken k g source cut (settled_of q) (Waits q') (led k x l) (Waits q'') =
-          λ source. subst (λ xs. Taken k g source cut xs (Waits q') (led k x l) (Waits q'')) u.settled (taken k source g cut q' q'' (led k x l) u.sound o.1) in
-          record {
-            sound = o.1.sound;
-            spared = spared_on q q' q'' u.spared o.1.spared;
-            settled = o.1.settled ∙ u.settled;
-            onward = on;
-            goes = λ source among last s.
-                link_offered k g source cut shows (settled_of q) x among last (Waits q') (Waits q'') l (left_at links next)
-                (subst (λ ls. Searching k g source cut (settled_of q) (Waits q') (links_of x ls)) parts (u.goes source among last s)) there o.0 (t source);
-          })
-          (λ (o : (Below k (led k x l).distance cut → ⊥) × (q'' ≡ q')).
-          subst (λ z. UnderWay z next) (sym o.1) (record {
-            sound = u.sound;
-            spared = u.spared;
-            settled = u.settled;
-            onward = on;
-            goes = λ source among last s.
-                link_passed k g source cut shows (settled_of q) x among last (Waits q') (Waits q') l (left_at links next)
-                (subst (λ ls. Searching k g source cut (settled_of q) (Waits q') (links_of x ls)) parts (u.goes source among last s)) o.0;
-          }))
-          offered
-
-    pub all_looked_at : (q' : State V) (link : Option (Link V)) → link ≡ None → UnderWay q' link → Relaxed k g cut q x q'
-    all_looked_at q' link none u = record {
-      sound = u.sound;
-      spared = u.spared;
-      settled = u.settled;
-      goes = λ source among last s.
-          links_done k g source cut shows (settled_of q) x among last (Waits q')
-          (subst (λ o. Searching k g source cut (settled_of q) (Waits q') (links_of x (left_at links o))) none (u.goes source among last s));
-    }
+  pub all_looked_at : graph.Sound g → {q' : State V} → UnderWay q' [] → Relaxed k g cut q x q'
+  all_looked_at shows {q'} u = record {
+    spared = u.spared;
+    settled = u.settled;
+    goes = λ source among last s. links_done k g source cut shows (settled_of q) x among last (Waits q') (u.goes source among last s);
+  }

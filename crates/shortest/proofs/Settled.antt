@@ -6,11 +6,12 @@ use Rattle.std.proofs.lemmas.List.{length_push, get_or_append_left, get_or_push}
 use Rattle.std.proofs.lemmas.Bool.{cases_lt}
 use Rattle.weight.specs.Algebra.{Algebra}
 use Rattle.shortest.specs.Places.{label_at, place_of}
-use Rattle.shortest.specs.Queues.{InUse, Queued, WaitsIn, listed, settled_labels}
+use Rattle.shortest.specs.Queues.{InUse, WaitsIn, listed, settled_labels}
+use Rattle.shortest.proofs.Sound.{Queued}
 use Rattle.shortest.specs.declared.waiting.Label.{Label}
 use Rattle.shortest.specs.declared.waiting.Waiting.{Waiting}
 use Rattle.shortest.proofs.Edits.{some_inside}
-use Rattle.shortest.proofs.Links.{one_place}
+use Rattle.shortest.proofs.Links.{held, one_place}
 
 -- a member stands at some place
 pub mem_place : {X : Type 0} (x : X) (xs : List X) → Memᴰ x xs → (i : ℕ) × (i < length xs) × ((d : X) → get_or xs i d ≡ x)
@@ -18,13 +19,13 @@ mem_place x [] m = absurd (Memᴰ.not-nil m)
 mem_place x (y ∷ ys) (Memᴰ.head e) = (0, omega arith, λ d. sym e)
 mem_place x (y ∷ ys) (Memᴰ.tail m) = let r = mem_place x ys m in (suc r.0, omega (arith, r.1), r.2)
 
-module _ {V : Type 0} (a : Algebra V) (ws : List (Waiting V)) (sites count done : ℕ) (q : Queued a ws sites count done) where
+module _ {V : Type 0} {a : Algebra V} {ws : List (Waiting V)} {sites count done : ℕ} (q : Queued a ws sites count done) where
   pub settled_used : (i : ℕ) → i < done → InUse sites count done (sites - 1 - i)
   settled_used i lt = inr (omega (arith, q.room), omega (arith, q.room))
 
   -- the label at the place of the i-th settled one
   pub settled_place : (i : ℕ) → i < done → (x : Label V) × ((label_at ws (sites - 1 - i) ≡ Some x) × (x.site < sites) × (place_of ws x.site ≡ Some (sites - 1 - i)))
-  settled_place i lt = q.linked.held (sites - 1 - i) (settled_used i lt)
+  settled_place i lt = held ws sites (InUse sites count done) q.linked (sites - 1 - i) (settled_used i lt)
 
   more : (n : ℕ) (lt : n < done) → settled_labels ws sites (suc n) ≡ settled_labels ws sites n ++ (settled_place n lt).0 ∷ []
   more n lt = ap (λ o. settled_labels ws sites n ++ listed o) (settled_place n lt).1.0

@@ -1,5 +1,5 @@
 -- The first label is settled: it trades places with the last one that waits, and is then laid at the next settled place.
-use Rattle.std.proofs.Common.{◌≡◌, ℕ, ◌+◌, ◌-◌, ◌<◌, ◌≤◌, List, [], ◌∷◌, ◌++◌, length, get_or, drop, Some, Option, sym, refl, ap, ◌∙◌, subst, inl, inr, ⊎_elim, add-one, arith, length-set}
+use Rattle.std.proofs.Common.{◌≡◌, ℕ, ◌+◌, ◌-◌, ◌<◌, ◌≤◌, List, [], ◌∷◌, ◌++◌, length, get_or, drop, Some, Option, sym, refl, ap, ◌∙◌, subst, inl, inr, ⊎_elim, add-one, arith}
 use Rattle.std.proofs.lemmas.List.{get_or_default}
 use Rattle.std.proofs.lemmas.Bool.{cases_lt}
 use Rattle.weight.specs.Algebra.{Algebra}
@@ -8,33 +8,28 @@ use Rattle.shortest.specs.declared.waiting.Waiting.{Waiting}
 use Rattle.shortest.specs.Places.{blank_place, label_at, relabelled, put_label, put_at, pointed, swapped, Inside, Moves}
 use Rattle.shortest.specs.Places as places
 use Rattle.shortest.specs.Order.{parent, Ordered, OrderedUnder}
-use Rattle.shortest.specs.Queues.{Linked, InUse, Queued, listed, settled_labels, Spared, SettledOne, Settling}
+use Rattle.shortest.specs.Queues.{Linked, InUse, listed, settled_labels, Spared, SettledOne, Settling}
+use Rattle.shortest.proofs.Sound.{Queued}
 use Rattle.shortest.proofs.Edits.{some_inside, trade, trade_right, trade_rest, label_swapped}
 use Rattle.shortest.proofs.Entering.{queue_of}
 use Rattle.shortest.proofs.Heaps.{carried, none_before_front}
-use Rattle.shortest.proofs.Links.{Moved, moved, of_label, one_place, linked_inside, laid_in, laid_long, laid_new, laid_old, laid_drop, laid_linked}
+use Rattle.shortest.proofs.Links.{Moved, moved, held, of_label, one_place, linked_inside, laid_in, laid_long, laid_new, laid_old, laid_drop, laid_linked}
 use Rattle.shortest.proofs.Sifted.{Sifted, sifted, settled_same}
 
-module _ {V : Type 0} (a : Algebra V) (ws : List (Waiting V)) (sites count done : ℕ) (q : Queued a ws sites count done) (some : count ≡ 0 → ⊥) where
+module _ {V : Type 0} {a : Algebra V} {ws : List (Waiting V)} {sites count done : ℕ} (q : Queued a ws sites count done) (some : count ≡ 0 → ⊥) where
   pub first_inside : 0 < length ws
   first_inside = omega (arith, q.fits, q.room)
 
   pub last_inside : count - 1 < length ws
   last_inside = omega (arith, q.fits, q.room)
 
-  pub first_site : (x : Label V) → label_at ws 0 ≡ Some x → x.site < length ws
-  first_site x e = omega (arith, q.fits, (of_label ws sites (InUse sites count done) q.linked 0 x (inl (omega arith)) e).0)
-
-  pub last_site : (x : Label V) → label_at ws (count - 1) ≡ Some x → x.site < length ws
-  last_site x e = omega (arith, q.fits, (of_label ws sites (InUse sites count done) q.linked (count - 1) x (inl (omega arith)) e).0)
-
   -- the first label, as it is read
   pub first_label : (d : Waiting V) → (x : Label V) × ((label_at ws 0 ≡ Some x) × ((get_or ws 0 d).label ≡ Some x))
   first_label d =
-      let h = q.linked.held 0 (inl (omega arith)) in
+      let h = held ws sites (InUse sites count done) q.linked 0 (inl (omega arith)) in
       (h.0, (h.1.0, ap (λ (w : Waiting V). w.label) (get_or_default ws 0 d blank_place first_inside) ∙ h.1.0))
 
-  module _ (vs : List (Waiting V)) (swap : vs ≡ swapped ws 0 (count - 1)) where
+  module _ {vs : List (Waiting V)} (swap : vs ≡ swapped ws 0 (count - 1)) where
     turned : Moved count sites count done ws vs
     turned =
         moved count sites count done ws vs (omega arith) (omega (arith, q.room)) q.fits q.linked
@@ -52,26 +47,15 @@ module _ {V : Type 0} (a : Algebra V) (ws : List (Waiting V)) (sites count done 
     vs_rest : (k : ℕ) → (k ≡ 0 → ⊥) → (k ≡ count - 1 → ⊥) → label_at vs k ≡ label_at ws k
     vs_rest k n0 nl = vs_label k ∙ ap (label_at ws) (trade_rest 0 (count - 1) k n0 nl)
 
-    last_below : count - 1 < sites
-    last_below = omega (arith, q.room)
-
     end_below : sites - 1 - done < sites
     end_below = omega (arith, q.room)
 
-    pub end_inside : sites - 1 - done < length vs
-    end_inside = omega (arith, vs_fits, end_below)
-
-    module _ (x : Label V) (first : label_at ws 0 ≡ Some x) where
+    module _ {x : Label V} (first : label_at ws 0 ≡ Some x) where
       vs_x : label_at vs (count - 1) ≡ Some x
       vs_x = vs_last ∙ first
 
       x_below : x.site < sites
       x_below = (of_label vs sites (InUse sites count done) turned.linked (count - 1) x (inl (omega arith)) vs_x).0
-
-      pub x_inside : (o : Option (Label V)) (ms : List (Waiting V)) → o ≡ Some x → ms ≡ put_label vs (sites - 1 - done) o → (y : Label V) → o ≡ Some y → y.site < length ms
-      x_inside o ms is wrote y e =
-          let same : x ≡ y = some_inside x y (sym is ∙ e) in
-          subst (λ (z : Label V). z.site < length ms) same (omega (arith, ap length wrote, length-set vs (sites - 1 - done) (relabelled o (get_or vs (sites - 1 - done) blank_place)), vs_fits, x_below))
 
       -- what else is in use afterwards was so before, and is not the label of x
       others : (k : ℕ) → InUse sites (count - 1) (done + 1) k → (k ≡ sites - 1 - done → ⊥) → InUse sites count done k × ((y : Label V) → label_at vs k ≡ Some y → y.site ≡ x.site → ⊥)
@@ -86,11 +70,11 @@ module _ {V : Type 0} (a : Algebra V) (ws : List (Waiting V)) (sites count done 
       end_laid = laid_in vs (sites - 1 - done) x
 
       -- the two writes lay the label
-      pub us_is : (o : Option (Label V)) (ms us : List (Waiting V)) → o ≡ Some x → ms ≡ put_label vs (sites - 1 - done) o → us ≡ pointed o (Some (sites - 1 - done)) ms → us ≡ laid_in vs (sites - 1 - done) x
-      us_is o ms us is wrote pointed_at =
+      pub us_is : {o : Option (Label V)} {ms us : List (Waiting V)} → o ≡ Some x → ms ≡ put_label vs (sites - 1 - done) o → us ≡ pointed o (Some (sites - 1 - done)) ms → us ≡ laid_in vs (sites - 1 - done) x
+      us_is {o} {ms} is wrote pointed_at =
           pointed_at ∙ ap (λ p. pointed p (Some (sites - 1 - done)) ms) is ∙ ap (λ z. put_at z x.site (Some (sites - 1 - done))) (wrote ∙ ap (put_label vs (sites - 1 - done)) is)
 
-      module _ (us : List (Waiting V)) (again : us ≡ end_laid) where
+      module _ {us : List (Waiting V)} (again : us ≡ end_laid) where
         us_linked : Linked us sites (InUse sites (count - 1) (done + 1))
         us_linked =
             subst (λ (z : List (Waiting V)). Linked z sites (InUse sites (count - 1) (done + 1))) (sym again)
@@ -126,7 +110,7 @@ module _ {V : Type 0} (a : Algebra V) (ws : List (Waiting V)) (sites count done 
           grand = λ k k0 kn e pos. absurd (omega arith);
         }
 
-        module _ (zs : List (Waiting V)) (ordered : Ordered a zs (count - 1)) (moves : Moves (count - 1) us zs) where
+        module _ {zs : List (Waiting V)} (ordered : Ordered a zs (count - 1)) (moves : Moves (count - 1) us zs) where
           sunk : Sifted a sites (count - 1) (done + 1) us zs
           sunk = sifted a (count - 1) sites (count - 1) (done + 1) us zs (omega arith) (omega (arith, q.room)) (omega (arith, us_size, vs_fits)) us_linked moves ordered
 
@@ -172,5 +156,5 @@ module _ {V : Type 0} (a : Algebra V) (ws : List (Waiting V)) (sites count done 
                 );
           }
 
-          pub settled_one : (o : Option (Label V)) → o ≡ Some x → SettledOne a (queue_of ws sites count done) o (queue_of zs sites (count - 1) (done + 1))
-          settled_one o is = subst (λ (p : Option (Label V)). SettledOne a (queue_of ws sites count done) p (queue_of zs sites (count - 1) (done + 1))) (sym is) front_settled
+          pub settled_one : {o : Option (Label V)} → o ≡ Some x → SettledOne a (queue_of ws sites count done) o (queue_of zs sites (count - 1) (done + 1))
+          settled_one is = subst (λ (p : Option (Label V)). SettledOne a (queue_of ws sites count done) p (queue_of zs sites (count - 1) (done + 1))) (sym is) front_settled

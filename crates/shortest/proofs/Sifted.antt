@@ -9,7 +9,8 @@ use Rattle.shortest.specs.declared.waiting.Label.{Label}
 use Rattle.shortest.specs.declared.waiting.Waiting.{Waiting}
 use Rattle.shortest.specs.Places.{label_at, Moves}
 use Rattle.shortest.specs.Order.{Ordered}
-use Rattle.shortest.specs.Queues.{Linked, InUse, Queued, WaitsIn, listed, settled_labels}
+use Rattle.shortest.specs.Queues.{Linked, InUse, WaitsIn, listed, settled_labels}
+use Rattle.shortest.proofs.Sound.{Queued}
 use Rattle.shortest.proofs.Links.{moved}
 
 -- settled labels depend on the last places alone

@@ -4,3 +4,4 @@ pub mod Places
 pub mod Progress
 pub mod Queues
 pub mod Searches
+pub mod States

@@ -1,14 +1,14 @@
--- A queue of labels: what always holds of it, and what its calls do.
+-- A queue of labels: what its type says of it, and what its calls do.
 use Rattle.std.specs.Prelude.{◌≡◌, ℕ, zero, suc, ◌+◌, ◌-◌, ◌<◌, ◌≤◌, Bool, true, false, ◌⊎◌, List, [], ◌∷◌, ◌++◌, length, drop, Some, None, Option, ◌==◌, ◌≢◌}
 use Rattle.std.specs.List.{ContainsAt as Has}
+use Rattle.std.specs.Option.{IsSomeAnd}
 use Rattle.weight.specs.Algebra.{Algebra, AtMost}
 use Rattle.shortest.specs.declared.waiting.Label.{Label}
 use Rattle.shortest.specs.declared.waiting.Waiting.{Waiting}
-use Rattle.shortest.specs.declared.queue.Queue.{Queue}
 use Rattle.shortest.specs.Places.{label_at, place_of}
-use Rattle.shortest.specs.Order.{Ordered, sooner}
+use Rattle.shortest.specs.Order.{sooner}
 
--- ---- what always holds
+-- ---- what its type says
 
 -- the places in use: those below count, and the last ones below sites
 abbrev pub InUse : ℕ → ℕ → ℕ → ℕ → Type 0
@@ -16,14 +16,8 @@ InUse sites count done k = (k < count) ⊎ ((sites ≤ k + done) × (k < sites))
 
 -- Each place in use has the label of a site, and that site names the place. What the other places hold does not matter,
 -- nor what a site without a label names.
-pub record Linked {V : Type 0} (ws : List (Waiting V)) (sites : ℕ) (Used : ℕ → Type 0) : Type 0 where
-  pub held : (k : ℕ) → Used k → (x : Label V) × ((label_at ws k ≡ Some x) × (x.site < sites) × (place_of ws x.site ≡ Some k))
-
-pub record Queued {V : Type 0} (a : Algebra V) (ws : List (Waiting V)) (sites count done : ℕ) : Type 0 where
-  pub fits : sites ≤ length ws
-  pub room : count + done ≤ sites
-  pub linked : Linked ws sites (InUse sites count done)
-  pub ordered : Ordered a ws count
+abbrev pub Linked : {V : Type 0} → List (Waiting V) → ℕ → (ℕ → Type 0) → Type 0
+Linked ws sites Used = (k : ℕ) → Used k → IsSomeAnd (label_at ws k) (λ x. (x.site < sites) × (place_of ws x.site ≡ Some k))
 
 -- a queue as it stands
 pub record State (V : Type 0) : Type 0 where
@@ -31,12 +25,6 @@ pub record State (V : Type 0) : Type 0 where
   pub sites : ℕ
   pub count : ℕ
   pub settled : ℕ
-
-abbrev pub state : {V : Type 0} → Queue V → State V
-state q = record { places = q.places.now; sites = q.sites; count = q.count; settled = q.settled }
-
-abbrev pub Sound : {V : Type 0} → Algebra V → State V → Type 0
-Sound a q = Queued a q.places q.sites q.count q.settled
 
 -- ---- what a queue shows
 
@@ -108,7 +96,6 @@ pub data Outcome {V : Type 0} (a : Algebra V) (q : State V) (x : Label V) (q' : 
   left_settled : (old : Label V) → Has (settled_of q) old → old.site ≡ x.site → q' ≡ q → Outcome a q x q'
 
 pub record Offering {V : Type 0} (a : Algebra V) (q : State V) (x : Label V) (q' : State V) : Type 0 where
-  pub sound : Sound a q'
   pub spared : Spared q q'
   pub number : q'.settled ≡ q.settled
   pub settled : settled_of q' ≡ settled_of q

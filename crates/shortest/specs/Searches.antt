@@ -1,5 +1,5 @@
 -- What the functions of a search do to its queue.
-use Rattle.std.specs.Prelude.{◌≡◌, ℕ, ◌-◌, ◌<◌, ◌≤◌, cond, ◌⊎◌, List, length, get_or, drop, Some, None, Option, nat_lt, slice_index_or}
+use Rattle.std.specs.Prelude.{◌≡◌, ℕ, ◌-◌, ◌<◌, ◌≤◌, cond, List, length, get_or, drop, Some, None, Option, nat_lt, slice_index_or}
 use mathlib.Core.List.{Memᴰ}
 use Rattle.weight.specs.Algebra.{Algebra, AtMost}
 use Rattle.network.specs.Graph.{Graph}
@@ -7,17 +7,17 @@ use Rattle.network.specs.Walks.{Below}
 use Rattle.shortest.specs.Finding.{Found}
 use Rattle.shortest.specs.Places.{label_at, place_of}
 use Rattle.shortest.specs.Progress.{Searching, nothing, links_of}
-use Rattle.shortest.specs.Queues.{State, Sound, Spared, Waits, Offering, settled_of, settled_labels}
+use Rattle.shortest.specs.Queues.{State, Spared, Waits, Offering, settled_of, settled_labels}
 use Rattle.shortest.specs.declared.waiting.Label.{Label}
 use Rattle.shortest.specs.declared.waiting.Waiting.{Waiting}
 
--- a label is offered where its distance is below the limit
-abbrev pub OfferedBelow : {V : Type 0} → Algebra V → Option V → State V → Label V → State V → Type 0
-OfferedBelow k cut q x q' = (Below k x.distance cut × Offering k q x q') ⊎ ((Below k x.distance cut → ⊥) × (q' ≡ q))
+-- a label is offered where its distance is below the limit, and else nothing changes
+pub data OfferedBelow {V : Type 0} (k : Algebra V) (cut : Option V) (q : State V) (x : Label V) (q' : State V) : Type 0 where
+  offered : Below k x.distance cut → Offering k q x q' → OfferedBelow k cut q x q'
+  not_below : (Below k x.distance cut → ⊥) → q' ≡ q → OfferedBelow k cut q x q'
 
 -- all links at the site of the settled label x were looked at
 pub record Relaxed {V : Type 0} (k : Algebra V) (g : Graph V) (cut : Option V) (q : State V) (x : Label V) (q' : State V) : Type 0 where
-  pub sound : Sound k q'
   pub spared : Spared q q'
   pub settled : settled_of q' ≡ settled_of q
   pub goes : (source : ℕ) → Memᴰ x (settled_of q) → ((y : Label V) → Memᴰ y (settled_of q) → AtMost k y.distance x.distance)
@@ -25,7 +25,6 @@ pub record Relaxed {V : Type 0} (k : Algebra V) (g : Graph V) (cut : Option V) (
 
 -- nothing waits any more, and the settled labels are those that a search finds
 pub record Searched {V : Type 0} (k : Algebra V) (g : Graph V) (source : ℕ) (cut : Option V) (before after : State V) : Type 0 where
-  pub sound : Sound k after
   pub spared : Spared before after
   pub none : after.count ≡ 0
   pub found : Found k g source cut (settled_of after)

@@ -39,25 +39,13 @@ pub fn settled_label<W: Copy>(waiting: &[Waiting<W>], sites: u32, order: u32) ->
     if order >= sites {
         return None;
     }
-    let place = (sites - 1 - order) as usize;
-    if place >= waiting.len() {
-        return None;
-    }
-    waiting[place].label
+    waiting.get((sites - 1 - order) as usize)?.label
 }
 
 // After how many others the latest search settled the site.
 pub fn settled_order<W: Copy>(waiting: &[Waiting<W>], sites: u32, site: u32) -> Option<u32>
     ensures { result ≡ order_of waiting.now sites site }
 {
-    if site as usize >= waiting.len() {
-        return None;
-    }
-    let asked = waiting[site as usize];
-    let place = asked.at?;
-    if place < sites {
-        Some(sites - 1 - place)
-    } else {
-        None
-    }
+    let place = waiting.get(site as usize)?.at?;
+    (place < sites).then(|| sites - 1 - place)
 }

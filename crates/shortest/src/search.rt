@@ -1,14 +1,15 @@
 // The shortest-distance search.
 ghost use Rattle.network.specs.Walks.{Below};
 ghost use Rattle.shortest.specs.Progress.{led};
-ghost use Rattle.shortest.specs.Queues.{state, Sound};
 ghost use Rattle.shortest.specs.Searches.{OfferedBelow, Relaxed, Searched};
+ghost use Rattle.shortest.specs.States.{state};
 ghost use Rattle.std.specs.Prelude.{◌≡◌, ◌<◌, true, false};
 
 use crate::queue::Queue;
 use crate::waiting::Label;
 use network::Network;
 use network::link::Link;
+use network::links::Links;
 use weight::Weight;
 
 // Whether the distance is below the limit; every distance is below no limit.
@@ -16,15 +17,11 @@ fn is_below<W: Weight>(distance: W, cut: Option<W>) -> bool
     ensures yes { result ≡ true → Below W.Weight.algebra distance cut }
     ensures not { result ≡ false → Below W.Weight.algebra distance cut → ⊥ }
 {
-    match cut {
-        None => true,
-        Some(limit) => distance.below(limit),
-    }
+    cut.is_none_or(|limit| distance.below(limit))
 }
 
 // Offers a label to the queue where its distance is below the limit.
 fn offer_below<'a, W: Weight>(queue: &mut Queue<'a, W>, label: Label<W>, cut: Option<W>)
-    requires sound { Sound W.Weight.algebra (state queue.old) }
     requires there { label.site < queue.old.sites }
     ensures lender { queue.new.places.ghost_name ≡ queue.old.places.ghost_name }
     ensures offered { OfferedBelow W.Weight.algebra cut (state queue.old) label (state queue.new) }
@@ -41,7 +38,6 @@ fn relax_link<'a, W: Weight>(
     link: Link<W>,
     cut: Option<W>,
 )
-    requires sound { Sound W.Weight.algebra (state queue.old) }
     requires there { link.far < queue.old.sites }
     ensures lender { queue.new.places.ghost_name ≡ queue.old.places.ghost_name }
     ensures offered { OfferedBelow W.Weight.algebra cut (state queue.old) (led W.Weight.algebra from link) (state queue.new) }
@@ -66,15 +62,12 @@ fn relax<'a, N: Network>(
     from: Label<N::W>,
     cut: Option<N::W>,
 )
-    requires sound { Sound N.W.Weight.algebra (state queue.old) }
     requires sites { queue.old.sites ≡ (N.Network.graph (N.Network.means network.now)).sites }
     ensures lender { queue.new.places.ghost_name ≡ queue.old.places.ghost_name }
     ensures relaxed { Relaxed N.W.Weight.algebra (N.Network.graph (N.Network.means network.now)) cut (state queue.old) from (state queue.new) }
 {
-    let mut link = network.first_link(from.site);
-    while let Some(l) = link {
-        relax_link(queue, from, l, cut);
-        link = network.next_link(from.site, l.mark);
+    for link in Links::at(network, from.site) {
+        relax_link(queue, from, link, cut);
     }
 }
 
@@ -85,7 +78,6 @@ pub(crate) fn search<'a, N: Network>(
     source: u32,
     cut: Option<N::W>,
 )
-    requires sound { Sound N.W.Weight.algebra (state queue.old) }
     requires empty { (queue.old.count ≡ 0) × (queue.old.settled ≡ 0) }
     requires sites { queue.old.sites ≡ (N.Network.graph (N.Network.means network.now)).sites }
     requires there { source < queue.old.sites }

@@ -6,23 +6,19 @@ ghost use Rattle.std.specs.Prelude.{◌≡◌, ◌<◌, length, Some};
 use crate::waiting::{Label, Waiting};
 use weight::Weight;
 
-// Whether the one label comes before the other: by distance, then by site. A place without a label comes last.
+// Whether the one label comes before the other: by distance, then by site. A place without a label comes last. It is
+// no `Ord`, since a kind of weight has only `below`.
 fn earlier<W: Weight>(one: Option<Label<W>>, other: Option<Label<W>>) -> bool
     ensures { result ≡ earlier W.Weight.algebra one other }
 {
-    let Some(one) = one else {
-        return false;
-    };
-    let Some(other) = other else {
-        return true;
-    };
-    if one.distance.below(other.distance) {
-        return true;
+    match (one, other) {
+        (None, _) => false,
+        (Some(_), None) => true,
+        (Some(one), Some(other)) => {
+            one.distance.below(other.distance)
+                || (!other.distance.below(one.distance) && one.site < other.site)
+        }
     }
-    if other.distance.below(one.distance) {
-        return false;
-    }
-    one.site < other.site
 }
 
 // Whether the label at the one place comes before that at the other.

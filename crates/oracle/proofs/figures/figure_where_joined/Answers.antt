@@ -1,14 +1,10 @@
-use Rattle.std.proofs.Common.{is_some, sym, refl, ap, ◌∙◌}
+use Rattle.std.proofs.Common.{refl}
 use Rattle.oracle.specs.Rule.{lesser}
 use Rattle.oracle.proofs.Answering.{only_joined, only_unjoined}
 use Rattle.oracle.proofs.figures.figure_where_joined.Goals as goal
 
-pub returns : goal.returns
-returns g c =
-    let k = g.W.Weight.algebra in
-    let is = c.is_some.ensures ∙ ap is_some c.lesser.ensures in
-    record {
-      value = is;
-      joined = λ t. only_joined k c.args.meeting c.args.hub (lesser k c.args.meeting c.args.hub) refl (sym is ∙ t);
-      unjoined = λ f. only_unjoined k c.args.meeting c.args.hub (lesser k c.args.meeting c.args.hub) refl (sym is ∙ f);
-    }
+pub returns-clause-joined : goal.returns-clause-joined
+returns-clause-joined g c = λ t. only_joined g.W.Weight.algebra c.args.meeting c.args.hub (lesser g.W.Weight.algebra c.args.meeting c.args.hub) refl cc
+
+pub returns-clause-unjoined : goal.returns-clause-unjoined
+returns-clause-unjoined g c = λ f. only_unjoined g.W.Weight.algebra c.args.meeting c.args.hub (lesser g.W.Weight.algebra c.args.meeting c.args.hub) refl cc

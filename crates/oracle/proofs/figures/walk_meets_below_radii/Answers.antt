@@ -1,9 +1,5 @@
-use Rattle.std.proofs.Common.{sym, ◌∙◌}
 use Rattle.oracle.proofs.Answering.{meets_below_radii}
 use Rattle.oracle.proofs.figures.walk_meets_below_radii.Goals as goal
 
-pub returns : goal.returns
-returns g c = record {
-  value = c.below_radii.ensures;
-  meets = λ t. meets_below_radii g.W.Weight.algebra c.args.total c.args.radius c.args.other (sym c.below_radii.ensures ∙ t);
-}
+pub returns-clause-meets : goal.returns-clause-meets
+returns-clause-meets g c = λ t. meets_below_radii g.W.Weight.algebra c.args.total c.args.radius c.args.other cc

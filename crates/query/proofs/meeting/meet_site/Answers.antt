@@ -1,19 +1,7 @@
-use Rattle.std.proofs.Common.{ap}
 use Rattle.network.specs.Links.{left_at}
-use Rattle.network.proofs.Cursors.{onward_first, onward_next, left_of_first, left_parts, less_left, told_among}
-use Rattle.query.specs.Meeting.{so_far}
-use Rattle.query.proofs.Meetings.{none_met, one_met, all_met}
+use Rattle.network.proofs.Cursors.{onward_next, left_parts, less_left, told_among}
+use Rattle.query.proofs.Meetings.{one_met}
 use Rattle.query.proofs.meeting.meet_site.Goals as goal
-
-pub loop-link-init : goal.loop-link-init
-loop-link-init g c =
-    let net = c.args.network.now in
-    let links = (g.N.Network.graph (g.N.Network.means net)).links c.args.from.site in
-    let apart = (g.N.Network.lawful.sound (g.N.Network.means net) (g.N.Network.lawful.valid net)).once c.args.from.site in
-    let first = c.first_link-link.result in (
-      none_met g.N.W.Weight.algebra c.args.ball.now c.args.from.distance links (so_far c.args.best) (left_at links first) (left_of_first links apart first c.first_link-link.ensures),
-      onward_first links apart first c.first_link-link.ensures,
-    )
 
 pub loop-link-smaller : goal.loop-link-smaller
 loop-link-smaller g c =
@@ -30,13 +18,8 @@ loop-link-preserved g c =
     let link = c.loop-link.link in
     let next = c.next_link-link.result in
     let l = c.in-Some.l in (
-      one_met g.N.W.Weight.algebra c.args.ball.now c.args.from.distance links (so_far c.args.best) l (left_at links link) (left_at links next) (so_far c.loop-link.best) (so_far c.meet_link-best.result)
+      one_met g.N.W.Weight.algebra c.args.there.now.ball.now c.args.from.distance links c.args.best l (left_at links link) (left_at links next) c.loop-link.best c.meet_link-best.result
           (left_parts links apart link next l c.in-Some.is c.loop-link.invariant.1 c.next_link-link.ensures) (told_among links apart link l c.in-Some.is c.loop-link.invariant.1)
           c.loop-link.invariant.0 c.meet_link-best.ensures,
       onward_next links apart link next l c.in-Some.is c.loop-link.invariant.1 c.next_link-link.ensures,
     )
-
-pub returns : goal.returns
-returns g c =
-    let links = (g.N.Network.graph (g.N.Network.means c.args.network.now)).links c.args.from.site in
-    all_met g.N.W.Weight.algebra c.args.ball.now c.args.from.distance links (so_far c.args.best) (left_at links c.loop-link.link) (so_far c.loop-link.best) (ap (left_at links) c.in_default.is) c.loop-link.invariant.0

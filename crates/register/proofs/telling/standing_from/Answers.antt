@@ -1,5 +1,5 @@
 use Rattle.std.proofs.Common.{Some, ap, ◌∙◌, arith}
-use Rattle.register.proofs.Walks.{set_out, come_to_end, below, standing_told, falls, walked_on}
+use Rattle.register.proofs.Walks.{set_out, below, standing_told, falls, walked_on}
 use Rattle.register.proofs.telling.standing_from.Goals as goal
 
 pub loop-at-init : goal.loop-at-init
@@ -26,6 +26,3 @@ pub loop-at-preserved : goal.loop-at-preserved
 loop-at-preserved g c =
     walked_on c.args.records.now c.args.site c.args.start c.loop-at.at c.in-Some.number c.in-Some.is c.loop-at.invariant
     c.index-records-number.result c.index-records-number.is c.requires.chained.0 c.requires.chained.1 c.next_at-at.result c.next_at-at.ensures c.if-link.false
-
-pub returns : goal.returns
-returns g c = come_to_end c.args.records.now c.args.site c.args.start c.loop-at.at c.in_default.is c.loop-at.invariant

@@ -1,7 +1,8 @@
 use Rattle.std.proofs.Common.{◌≡◌, ◌-◌, length}
 use Rattle.shortest.proofs.Loops.{Running}
 use Rattle.shortest.proofs.search.search.Given as goal
-use Rattle.shortest.specs.Queues.{state, settled_of}
+use Rattle.shortest.specs.Queues.{settled_of}
+use Rattle.shortest.specs.States.{state}
 
 abbrev pub invariant-loop-label : goal.invariant-loop-label
 invariant-loop-label g l =

@@ -7,9 +7,6 @@ use Rattle.shortest.proofs.sifting.sift_down.Goals as goal
 pub loop-i-init : goal.loop-i-init
 loop-i-init g c = (c.requires.inside, c.requires.near, stay)
 
-pub comes_before-requires : goal.comes_before-requires
-comes_before-requires g c = (omega (arith, c.least_child-child.ensures.inside), omega arith)
-
 pub returns-then-not-comes_before : goal.returns-then-not-comes_before
 returns-then-not-comes_before g c =
     let inv = c.loop-i.invariant in
@@ -17,16 +14,6 @@ returns-then-not-comes_before g c =
       ordered =
           sunk g.W.Weight.algebra c.loop-i.places c.args.count c.loop-i.i c.least_child-child.result c.if-not-comes_before.ensures c.least_child-child.ensures inv.1;
       moves = inv.2;
-    }
-
-pub swap_labels-requires : goal.swap_labels-requires
-swap_labels-requires g c =
-    let inv = c.loop-i.invariant in
-    let child = c.least_child-child.ensures in
-    record {
-      within = (omega arith, omega (arith, child.inside));
-      one = λ x e. inv.0 _ x (omega arith) e;
-      other = λ x e. inv.0 _ x child.inside e;
     }
 
 pub loop-i-preserved : goal.loop-i-preserved

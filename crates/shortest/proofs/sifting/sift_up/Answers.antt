@@ -1,31 +1,10 @@
 use Rattle.std.proofs.Common.{arith}
 use Rattle.shortest.specs.Places.{stay}
-use Rattle.shortest.proofs.Heaps.{settled_up}
 use Rattle.shortest.proofs.Turns.{up_turn}
 use Rattle.shortest.proofs.sifting.sift_up.Goals as goal
 
 pub loop-i-init : goal.loop-i-init
 loop-i-init g c = (omega arith, c.requires.inside, (λ n lt b. b), stay)
-
-pub comes_before-requires : goal.comes_before-requires
-comes_before-requires g c = (omega (arith, c.loop-i.invariant.0), omega (arith, c.loop-i.invariant.0))
-
-pub returns-then-not-comes_before : goal.returns-then-not-comes_before
-returns-then-not-comes_before g c =
-    let inv = c.loop-i.invariant in
-    record {
-      ordered = λ n lt b. settled_up g.W.Weight.algebra c.loop-i.places n c.loop-i.i c.if-not-comes_before.ensures (inv.2 n lt b);
-      moves = inv.3;
-    }
-
-pub swap_labels-requires : goal.swap_labels-requires
-swap_labels-requires g c =
-    let inv = c.loop-i.invariant in
-    record {
-      within = (omega (arith, inv.0), omega (arith, inv.0));
-      one = λ x e. inv.1 _ x (omega (arith, inv.0)) e;
-      other = λ x e. inv.1 _ x (omega (arith, inv.0)) e;
-    }
 
 pub loop-i-preserved : goal.loop-i-preserved
 loop-i-preserved g c =

@@ -1,48 +1,36 @@
-use Rattle.std.proofs.Common.{refl}
-use Rattle.shortest.proofs.Settling.{first_inside, last_inside, first_site, last_site, end_inside, first_label, x_inside, us_is, sink_long, sink_inside, sink_near, settled_sound, settled_spared, settled_one}
+use Rattle.shortest.proofs.Settling.{first_label, us_is, sink_long, sink_inside, sink_near, settled_sound, settled_spared, settled_one}
+use Rattle.shortest.proofs.Sound.{sound}
 use Rattle.shortest.proofs.queue.Queue.settle.Goals as goal
-
-pub swap_labels-requires : goal.swap_labels-requires
-swap_labels-requires g c =
-    let q = c.args.self.now in
-    record {
-      within = (first_inside g.W.Weight.algebra q.places.now q.sites q.count q.settled c.requires c.if-self-eq0.false, last_inside g.W.Weight.algebra q.places.now q.sites q.count q.settled c.requires c.if-self-eq0.false);
-      one = first_site g.W.Weight.algebra q.places.now q.sites q.count q.settled c.requires c.if-self-eq0.false;
-      other = last_site g.W.Weight.algebra q.places.now q.sites q.count q.settled c.requires c.if-self-eq0.false;
-    }
-
-pub write_label-requires : goal.write_label-requires
-write_label-requires g c =
-    let q = c.args.self.now in
-    end_inside g.W.Weight.algebra q.places.now q.sites q.count q.settled c.requires c.if-self-eq0.false c.swap_labels.new.places c.swap_labels.ensures
-
-pub point-requires : goal.point-requires
-point-requires g c =
-    let q = c.args.self.now in
-    let first = first_label g.W.Weight.algebra q.places.now q.sites q.count q.settled c.requires c.if-self-eq0.false c.index-self-0.result in
-    x_inside g.W.Weight.algebra q.places.now q.sites q.count q.settled c.requires c.if-self-eq0.false c.swap_labels.new.places c.swap_labels.ensures first.0 first.1.0 _ c.write_label.new.places first.1.1 c.write_label.ensures
 
 pub sift_down-requires : goal.sift_down-requires
 sift_down-requires g c =
-    let q = c.args.self.now in
-    let first = first_label g.W.Weight.algebra q.places.now q.sites q.count q.settled c.requires c.if-self-eq0.false c.index-self-0.result in
-    let laid = us_is g.W.Weight.algebra q.places.now q.sites q.count q.settled c.requires c.if-self-eq0.false c.swap_labels.new.places c.swap_labels.ensures first.0 first.1.0 _ c.write_label.new.places c.point.new.places first.1.1 c.write_label.ensures c.point.ensures in
+    let q = sound c.args.self.now in
+    let first = first_label q c.if-self-eq0.false c.index-places-0.result in
+    let laid = us_is q c.if-self-eq0.false c.swap_labels.ensures first.1.0 first.1.1 c.write_label.ensures c.point.ensures in
     record {
-      there = sink_long g.W.Weight.algebra q.places.now q.sites q.count q.settled c.requires c.if-self-eq0.false c.swap_labels.new.places c.swap_labels.ensures first.0 first.1.0 c.point.new.places laid;
-      inside = sink_inside g.W.Weight.algebra q.places.now q.sites q.count q.settled c.requires c.if-self-eq0.false c.swap_labels.new.places c.swap_labels.ensures first.0 first.1.0 c.point.new.places laid;
-      near = sink_near g.W.Weight.algebra q.places.now q.sites q.count q.settled c.requires c.if-self-eq0.false c.swap_labels.new.places c.swap_labels.ensures first.0 first.1.0 c.point.new.places laid;
+      there = sink_long q c.if-self-eq0.false c.swap_labels.ensures first.1.0 laid;
+      inside = sink_inside q c.if-self-eq0.false c.swap_labels.ensures first.1.0 laid;
+      near = sink_near q c.if-self-eq0.false c.swap_labels.ensures first.1.0 laid;
     }
 
-pub returns : goal.returns
-returns g c =
-    let q = c.args.self.now in
-    let first = first_label g.W.Weight.algebra q.places.now q.sites q.count q.settled c.requires c.if-self-eq0.false c.index-self-0.result in
-    let laid = us_is g.W.Weight.algebra q.places.now q.sites q.count q.settled c.requires c.if-self-eq0.false c.swap_labels.new.places c.swap_labels.ensures first.0 first.1.0 _ c.write_label.new.places c.point.new.places first.1.1 c.write_label.ensures c.point.ensures in
-    let zs = c.sift_down.new.places in
-    let e = c.sift_down.ensures in
-    record {
-      lender = refl {a = c.args.self.now.places.ghost_name};
-      sound = settled_sound g.W.Weight.algebra q.places.now q.sites q.count q.settled c.requires c.if-self-eq0.false c.swap_labels.new.places c.swap_labels.ensures first.0 first.1.0 c.point.new.places laid zs e.ordered e.moves;
-      spared = settled_spared g.W.Weight.algebra q.places.now q.sites q.count q.settled c.requires c.if-self-eq0.false c.swap_labels.new.places c.swap_labels.ensures first.0 first.1.0 c.point.new.places laid zs e.ordered e.moves;
-      one = settled_one g.W.Weight.algebra q.places.now q.sites q.count q.settled c.requires c.if-self-eq0.false c.swap_labels.new.places c.swap_labels.ensures first.0 first.1.0 c.point.new.places laid zs e.ordered e.moves _ first.1.1;
-    }
+pub invariant_of-self : goal.invariant_of-self
+invariant_of-self g c =
+    let q = sound c.args.self.now in
+    let first = first_label q c.if-self-eq0.false c.index-places-0.result in
+    let laid = us_is q c.if-self-eq0.false c.swap_labels.ensures first.1.0 first.1.1 c.write_label.ensures c.point.ensures in
+    let s = settled_sound q c.if-self-eq0.false c.swap_labels.ensures first.1.0 laid c.sift_down.ensures.ordered c.sift_down.ensures.moves in
+    record { fits = s.fits; room = s.room; linked = s.linked; ordered = s.ordered }
+
+pub returns-clause-spared : goal.returns-clause-spared
+returns-clause-spared g c =
+    let q = sound c.args.self.now in
+    let first = first_label q c.if-self-eq0.false c.index-places-0.result in
+    let laid = us_is q c.if-self-eq0.false c.swap_labels.ensures first.1.0 first.1.1 c.write_label.ensures c.point.ensures in
+    settled_spared q c.if-self-eq0.false c.swap_labels.ensures first.1.0 laid c.sift_down.ensures.ordered c.sift_down.ensures.moves
+
+pub returns-clause-one : goal.returns-clause-one
+returns-clause-one g c =
+    let q = sound c.args.self.now in
+    let first = first_label q c.if-self-eq0.false c.index-places-0.result in
+    let laid = us_is q c.if-self-eq0.false c.swap_labels.ensures first.1.0 first.1.1 c.write_label.ensures c.point.ensures in
+    settled_one q c.if-self-eq0.false c.swap_labels.ensures first.1.0 laid c.sift_down.ensures.ordered c.sift_down.ensures.moves first.1.1

@@ -1,5 +1,0 @@
-use Rattle.query.proofs.Tabulating.{Tabulating}
-use Rattle.query.proofs.lookup.tabulate.Given as goal
-
-abbrev pub invariant-loop-place : goal.invariant-loop-place
-invariant-loop-place g l = Tabulating l.ball l.place l.table
