@@ -4,7 +4,7 @@ ghost use Rattle.std.specs.Prelude.{◌≡◌};
 
 use weight::Weight;
 
-// Each place's blank value is written out and not derived, since its contract names it.
+// Each place's blank value is written out: a derived one would ask for a default of the kind.
 
 // What a standing build tells of a site: its radius and its hub, both none where no hub is in reach (each absent by itself,
 // a rule of the project),

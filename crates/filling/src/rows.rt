@@ -61,7 +61,7 @@ fn note_row<W: Weight>(site_places: &mut [SitePlace<W>], row: &[RowPlace<W>], hu
     }
 }
 
-// Fills the row of a hub, which is blank, and tells each site of the hub.
+// Fills the row of a hub, which is blank, and tells each site of the hub. Sizes are asked for as beside the balls.
 fn fill_row<N: Network>(
     network: &N,
     hub: u32,

@@ -54,7 +54,7 @@ fn fit(
 }
 
 // Blanks all places.
-fn blank_all<W: Weight>(
+pub fn blank_all<W: Weight>(
     site_places: &mut [SitePlace<W>],
     rows: &mut [RowPlace<W>],
     entries: &mut [Entry<W>],

@@ -4,4 +4,5 @@ pub mod Cursors
 pub mod Faultless
 pub mod Granting
 pub mod Orders
+pub mod Overwritten
 pub mod Sound

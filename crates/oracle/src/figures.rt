@@ -61,7 +61,8 @@ pub fn figure_where_joined<W: Weight>(meeting: Option<W>, hub: Option<W>) -> boo
     lesser(meeting, hub).is_some()
 }
 
-// Whether two figures with their manners are the same: neither value is below the other then. They are the same, if both
+// Whether two figures with their manners (numbers, by a rule of the project) are the same: neither value is below the other
+// then, which is all that a kind tells. They are the same, if both
 // are of the same two sites.
 pub fn figure_is_one<W: Weight>(one: (W, u32), other: (W, u32)) -> bool
     ensures same { result ≡ true → one ≡ other }

@@ -4,7 +4,7 @@ ghost use Rattle.std.specs.Prelude.{◌≡◌};
 
 use weight::Weight;
 
-// Whether the one radius is at most the other; an unbounded one is above every other.
+// Whether the one radius is at most the other; an unbounded one is above every other. By hand, since a kind has only `below`.
 pub fn no_wider<W: Weight>(one: Option<W>, other: Option<W>) -> bool
     ensures { result ≡ no_wider W.Weight.algebra one other }
 {

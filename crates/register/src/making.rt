@@ -90,7 +90,7 @@ impl<'a, W: Weight> Register<'a, W> {
     }
 }
 
-// A record as memory holds it before any link: to make the memory that is lent.
+// A record as memory holds it before any link: to make the memory that is lent. By hand, since its weight is the kind's zero.
 impl<W: Weight> Default for LinkRecord<W> {
     ghost is_default = { λ record'. record' ≡ blank_record W.Weight.algebra };
 
@@ -102,18 +102,6 @@ impl<W: Weight> Default for LinkRecord<W> {
             standing: false,
             next_one: None,
             next_other: None,
-        }
-    }
-}
-
-// A chain with no link in it.
-impl Default for SiteChain {
-    ghost is_default = { λ chain. chain ≡ no_chain };
-
-    fn default() -> SiteChain {
-        SiteChain {
-            first: None,
-            last: None,
         }
     }
 }

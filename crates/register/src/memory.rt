@@ -13,7 +13,7 @@ pub struct LinkRecord<W> {
 }
 
 // The first and the last link number at a site.
-#[derive(Clone, Copy, Debug, PartialEq, Eq)]
+#[derive(Clone, Copy, Debug, Default, PartialEq, Eq)]
 pub struct SiteChain {
     pub first: Option<u32>,
     pub last: Option<u32>,

@@ -36,7 +36,8 @@ pub(crate) fn next_at<W: Weight>(link: LinkRecord<W>, site: u32) -> Option<u32>
     }
 }
 
-// The first standing link of the site's chain from `start` on: struck links are passed over.
+// The first standing link of the site's chain from `start` on: struck links are passed over. The chain goes by numbers of
+// records, since there is no heap for nodes.
 pub(crate) fn standing_from<W: Weight>(
     records: &[LinkRecord<W>],
     site: u32,

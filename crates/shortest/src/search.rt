@@ -20,7 +20,8 @@ fn is_below<W: Weight>(distance: W, cut: Option<W>) -> bool
     cut.is_none_or(|limit| distance.below(limit))
 }
 
-// Offers a label to the queue where its distance is below the limit.
+// Offers a label to the queue where its distance is below the limit. That its site is one of the queue's is asked for, since
+// the label's type does not know the queue.
 fn offer_below<'a, W: Weight>(queue: &mut Queue<'a, W>, label: Label<W>, cut: Option<W>)
     requires there { label.site < queue.old.sites }
     ensures lender { queue.new.places.ghost_name ≡ queue.old.places.ghost_name }

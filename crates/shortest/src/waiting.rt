@@ -19,7 +19,7 @@ pub struct Waiting<W> {
     pub at: Option<u32>,
 }
 
-// A place before any search.
+// A place before any search: written out, since a derived one would ask for a default of the kind.
 impl<W: Copy> Default for Waiting<W> {
     ghost is_default = { λ place. place ≡ blank_place };
 

@@ -38,7 +38,7 @@ impl<W: Weight> Book<'_, W> {
         Ok(())
     }
 
-    // The figure of two sites, as the tables tell it.
+    // The figure of two sites, as the tables tell it, with its manner, a number by a rule of the project.
     pub(crate) fn ask<N: Network<W = W>>(&self, network: &N, s: u32, t: u32) -> Option<(W, u32)>
         ensures { Told W.Weight.algebra (N.Network.graph (N.Network.means network.now)) (state self.now) s t result }
     {

@@ -2,8 +2,8 @@
 ghost use Rattle.index.specs.Books.{state, unbuilt, emptied};
 ghost use Rattle.std.specs.Prelude.{◌≡◌};
 
-use super::{Book, Entry, RowPlace, SitePlace};
-use network::lent::overwrite;
+use super::Book;
+use filling::tables::blank_all;
 use weight::Weight;
 
 impl<W: Weight> Book<'_, W> {
@@ -14,9 +14,11 @@ impl<W: Weight> Book<'_, W> {
         let sites = self.sizes.sites as usize;
         let rows = self.sizes.hub_places as usize * sites;
         let entries = self.sizes.entry_places as usize;
-        overwrite(&mut self.site_places[..sites], SitePlace::default());
-        overwrite(&mut self.rows[..rows], RowPlace::default());
-        overwrite(&mut self.entries[..entries], Entry::default());
+        blank_all(
+            &mut self.site_places[..sites],
+            &mut self.rows[..rows],
+            &mut self.entries[..entries],
+        );
         self.built = false;
     }
 
