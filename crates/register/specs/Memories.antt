@@ -51,6 +51,14 @@ pub record Spared {V : Type 0} (before after : Memory V) : Type 0 where
 abbrev pub SameReference : {X : Type 0} → MutBor X → MutBor X → Type 0
 SameReference r s = (s.ref_ptr ≡ r.ref_ptr) × (s.ghost_name ≡ r.ghost_name)
 
+-- the register is over the memory that these references lend
+abbrev pub HoldsMemory : {V : Type 0} → MutBor (List SiteChain) → MutBor (List (LinkRecord V)) → Register V → Type 0
+HoldsMemory chains records r = SameReference chains r.chains × SameReference records r.records
+
+-- and still over the same memory
+abbrev pub KeepsMemory : {V : Type 0} → Register V → Register V → Type 0
+KeepsMemory before after = HoldsMemory before.chains before.records after
+
 -- ---- its sizes
 
 -- The first size or memory that does not do: sites, then their memory, then link places, then theirs.

@@ -1,5 +1,5 @@
 // How a register is made, over memory that its user lends.
-ghost use Rattle.register.specs.Memories.{Made, Renewed, SameReference, blank_record, lent, memory_of, no_chain, register_meaning, size_fault};
+ghost use Rattle.register.specs.Memories.{HoldsMemory, KeepsMemory, Made, Renewed, blank_record, lent, memory_of, no_chain, register_meaning, size_fault};
 ghost use Rattle.network.specs.Sizes.{checked};
 ghost use Rattle.std.specs.Prelude.{◌≡◌, ◌≤◌, ◌++◌, drop, false, is_ok, length, replicate};
 
@@ -53,8 +53,7 @@ impl<'a, W: Weight> Register<'a, W> {
         records: &'a mut [LinkRecord<W>],
     ) -> Register<'a, W>
         ensures made { Made sizes.sites sizes.places (lent chains.old records.old) (memory_of result) }
-        ensures chains { SameReference chains.entry result.chains }
-        ensures records { SameReference records.entry result.records }
+        ensures memory { HoldsMemory chains.entry records.entry result }
     {
         let mut register = Register {
             sites: 0,
@@ -78,8 +77,7 @@ impl<'a, W: Weight> Register<'a, W> {
     pub fn renew(&mut self, sizes: RegisterSizes) -> Result<(), NetworkFault>
         ensures renewed { Renewed sizes.sites sizes.places (memory_of self.old) result (memory_of self.new) }
         ensures left { is_ok result ≡ false → self.new ≡ self.old }
-        ensures chains { SameReference self.old.chains self.new.chains }
-        ensures records { SameReference self.old.records self.new.records }
+        ensures memory { KeepsMemory self.old self.new }
     {
         self.check(sizes)?;
         empty_chains(self.chains, sizes.sites);
