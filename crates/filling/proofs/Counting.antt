@@ -55,7 +55,7 @@ module _ {V : Type 0} (k : Algebra V) (g : Graph V) (v : ℕ) (cut : Option V) w
         (λ o. ⊎_elim (λ (less : i < j). absurd (no_clash i j less lj e)) (λ (less : j < i). absurd (no_clash j i less li (sym e))) o)
         (cases_order i j)
 
-    no_more : length ys ≤ length xs
+    pub no_more : length ys ≤ length xs
     no_more =
         ⊎_elim
         (λ (few : length xs < length ys).
@@ -63,11 +63,11 @@ module _ {V : Type 0} (k : Algebra V) (g : Graph V) (v : ℕ) (cut : Option V) w
         (λ (le : length ys ≤ length xs). le)
         (cases_lt (length xs) (length ys))
 
-  as_many : (xs ys : List (Label V)) → Found k g v cut xs → Found k g v cut ys → length xs ≡ length ys
+  pub as_many : (xs ys : List (Label V)) → Found k g v cut xs → Found k g v cut ys → length xs ≡ length ys
   as_many xs ys f h = let le = no_more xs ys f h in let ge = no_more ys xs h f in omega arith
 
 module _ {V : Type 0} (k : Algebra V) (g : Graph V) (hubs : List ℕ) where
-  one_count : (v m n : ℕ) → Balls k g hubs v m → Balls k g hubs v n → m ≡ n
+  pub one_count : (v m n : ℕ) → Balls k g hubs v m → Balls k g hubs v n → m ≡ n
   one_count zero m n p q = p ∙ sym q
   one_count (suc v) m n p q =
       let near : p.1 ≡ q.1 = one_radius k g hubs v p.1 q.1 p.4.radius q.4.radius in

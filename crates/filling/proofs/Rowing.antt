@@ -23,13 +23,13 @@ pub record Rowing {V : Type 0} (k : Algebra V) (g : Graph V) (hub_list : List (O
 -- ---- the hubs of a hub list
 
 -- where each place has a hub, the list goes on
-listed_append : (xs ys : List (Option ℕ)) → length (listed xs) ≡ length xs → listed (xs ++ ys) ≡ listed xs ++ listed ys
+pub listed_append : (xs ys : List (Option ℕ)) → length (listed xs) ≡ length xs → listed (xs ++ ys) ≡ listed xs ++ listed ys
 listed_append [] ys e = refl
 listed_append (None ∷ xs) ys e = absurd (omega arith)
 listed_append (Some x ∷ xs) ys e = ap (λ zs. x ∷ zs) (listed_append xs ys (omega arith))
 
 -- the list ends at the first blank
-listed_stop : (xs ys : List (Option ℕ)) → listed (xs ++ None ∷ ys) ≡ listed xs
+pub listed_stop : (xs ys : List (Option ℕ)) → listed (xs ++ None ∷ ys) ≡ listed xs
 listed_stop [] ys = refl
 listed_stop (None ∷ xs) ys = refl
 listed_stop (Some x ∷ xs) ys = ap (λ zs. x ∷ zs) (listed_stop xs ys)

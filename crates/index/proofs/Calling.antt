@@ -5,12 +5,13 @@ use Rattle.std.specs.List.Sorted.{IsBinarySearchResult}
 use Rattle.std.specs.Option.{option_cmp}
 use Rattle.std.specs.Ordering.{nat_cmp}
 use Rattle.weight.specs.Algebra.{Algebra}
+use Rattle.filling.specs.Places.{listed}
 use Rattle.index.specs.Books.{BookState, state, hubs_of, unbuilt}
 use Rattle.index.specs.Calls.{Follows, at_site, naming, unnaming}
 use Rattle.index.specs.Hubs.{listing, has, insert, without, rank, sought, ordered, moved_up, moved_down}
 use Rattle.index.specs.declared.book.Book.{Book}
 use Rattle.index.proofs.Listing.{Climbs, length-insert, climbs_insert, rank_most, rank_below, climbs_without}
-use Rattle.index.proofs.Naming.{order_kept, climbs, hubs_few, hubs_front, named_is, unnamed_is, length_without}
+use Rattle.index.proofs.Naming.{hubs_kept, order_kept, climbs, hubs_few, hubs_front, named_is, unnamed_is, length_without}
 use Rattle.index.proofs.Seeking.{search_is, sought_there, sought_not_there}
 
 -- the book with another hub list in its memory
@@ -39,11 +40,12 @@ module _ {V : Type 0} (b : Book V) where
 
   -- What holds of memory that lists other hubs.
   pub record Listed (hs : List ℕ) (ys : List (Option ℕ)) : Type 0 where
+    pub counted : length (listed (take places ys)) ≡ length hs
     pub order : ordered 0 b.sizes.sites (take places ys) ≡ true
     pub is : ys ≡ listing places hs ++ drop places b.hub_list.now
 
   lists : (hs : List ℕ) (ys : List (Option ℕ)) → length hs ≤ places → Climbs 0 b.sizes.sites hs → ys ≡ listing places hs ++ drop places b.hub_list.now → Listed hs ys
-  lists hs ys few c is = record { order = order_kept b.sizes.sites places hs (drop places b.hub_list.now) ys few is c; is = is }
+  lists hs ys few c is = record { counted = ap length (hubs_kept b.sizes.sites places hs (drop places b.hub_list.now) ys few is); order = order_kept b.sizes.sites places hs (drop places b.hub_list.now) ys few is c; is = is }
 
   module _ (s n i : ℕ) (count : n ≡ length hubs) where
     -- ---- the site is no hub: it is named
@@ -76,7 +78,7 @@ module _ {V : Type 0} (b : Book V) where
       pub place_below : i < n
       place_below = omega (arith, there.1, rank_below s 0 b.sizes.sites hubs ascending there.0)
 
-      less : suc (length (without s hubs)) ≡ length hubs
+      pub less : suc (length (without s hubs)) ≡ length hubs
       less = length_without b.sizes.sites places b.hub_list.now b.held.1 b.ordered s n count there.0
 
       pub unnamed_lists : (ys : List (Option ℕ)) → ys ≡ moved_down n i None b.hub_list.now → Listed (without s hubs) ys

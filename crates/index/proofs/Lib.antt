@@ -6,5 +6,6 @@ pub mod Lending
 pub mod Listing
 pub mod Moving
 pub mod Naming
+pub mod Ruling
 pub mod Seeking
 pub mod Sizing

@@ -46,6 +46,14 @@ listing_from_ordered low sites (Some x ∷ xs) h =
     let n : length xs - length (listed xs) ≡ suc (length xs) - suc (length (listed xs)) = omega arith in
     ap (λ r. Some x ∷ r) (listing_from_ordered (suc x) sites xs rest ∙ ap (λ m. somes (listed xs) ++ replicate m None) n)
 
+pub listed_nones : (n : ℕ) → listed (replicate n None) ≡ []
+listed_nones zero = refl
+listed_nones (suc n) = refl
+
+pub listed_listing : (n : ℕ) (hs : List ℕ) → listed (somes hs ++ replicate n None) ≡ hs
+listed_listing n [] = listed_nones n
+listed_listing n (h ∷ hs) = ap (λ r. h ∷ r) (listed_listing n hs)
+
 climbs_lower : (low low' sites : ℕ) (hs : List ℕ) → low' ≤ low → Climbs low sites hs → Climbs low' sites hs
 climbs_lower low low' sites [] le c = tt
 climbs_lower low low' sites (h ∷ hs) le c = let a : low ≤ h = c.0 in (omega arith, c.1, c.2)

@@ -4,7 +4,7 @@ use lib.ListN.{length-replicate}
 use Rattle.std.proofs.lemmas.List.{append_assoc, map-append, length-map, length-append, length-drop, length-take-le, take-append-drop, take_at, take-map, drop-map}
 use Rattle.filling.specs.Places.{listed}
 use Rattle.index.specs.Hubs.{listing, has, insert, without, rank, ordered, moved_up, moved_down}
-use Rattle.index.proofs.Listing.{Climbs, somes, climbs_from_ordered, ordered_from_climbs, listing_from_ordered, length-insert, rank_most, insert_is, without_is, rank_below, up_in, down_in}
+use Rattle.index.proofs.Listing.{Climbs, somes, climbs_from_ordered, ordered_from_climbs, listing_from_ordered, listed_listing, length-insert, rank_most, insert_is, without_is, rank_below, up_in, down_in}
 
 abbrev none : Option ℕ
 none = None
@@ -18,6 +18,9 @@ length-listing p hs le =
 module _ (sites p : ℕ) (hs : List ℕ) (past xs : List (Option ℕ)) (few : length hs ≤ p) (is : xs ≡ listing p hs ++ past) where
   front_is : take p xs ≡ listing p hs
   front_is = ap (take p) is ∙ take_at (listing p hs) past p (length-listing p hs few)
+
+  pub hubs_kept : listed (take p xs) ≡ hs
+  hubs_kept = ap listed front_is ∙ listed_listing (p - length hs) hs
 
   pub order_kept : Climbs 0 sites hs → ordered 0 sites (take p xs) ≡ true
   order_kept c = ap (ordered 0 sites) front_is ∙ ordered_from_climbs 0 sites (p - length hs) hs c

@@ -1,44 +1,16 @@
--- How many hubs a hub list has, and the place of a site among them.
-use Rattle.std.proofs.Common.{◌≡◌, ℕ, zero, suc, ◌<◌, ◌≤◌, true, false, List, [], ◌∷◌, length, get_or, Some, None, Ok, Err, Option, Result, sym, refl, ap, ◌∙◌, subst, arith}
-use Rattle.std.specs.List.Sorted.{IsBinarySearchResult, IsPartitionedBy, IsPartitionPoint}
-use Rattle.std.specs.Option.{option_cmp, is_some}
+-- The place of a site among the hubs.
+use Rattle.std.proofs.Common.{◌≡◌, ℕ, zero, suc, ◌<◌, ◌≤◌, true, false, List, [], ◌∷◌, length, get_or, Some, Ok, Err, Option, Result, sym, refl, ap, ◌∙◌, subst, arith}
+use Rattle.std.specs.List.Sorted.{IsBinarySearchResult}
+use Rattle.std.specs.Option.{option_cmp}
 use Rattle.std.specs.Ordering.{nat_cmp}
 use Rattle.std.specs.declared.cmp.Ordering.TheVariants.{Less, Equal, Greater}
-use Rattle.std.proofs.lemmas.Bool.{and_parts, both_ways}
 use Rattle.std.proofs.lemmas.Grind.{common_steps}
 use Rattle.std.proofs.lemmas.List.{length-map}
 use Rattle.std.proofs.lemmas.List.{get_or-map as element_map}
 use Rattle.std.proofs.Math.ListN.{get_or-map}
 use Rattle.std.proofs.lemmas.List.Sorted.{searched}
-use Rattle.filling.specs.Places.{listed}
-use Rattle.index.specs.Hubs.{has, rank, sought, blanks, ordered}
+use Rattle.index.specs.Hubs.{has, rank, sought}
 use Rattle.index.proofs.Listing.{Climbs, somes}
-
--- ---- how many hubs there are
-
-blanks_at : (xs : List (Option ℕ)) (j : ℕ) (d : Option ℕ) → blanks xs ≡ true → j < length xs → is_some (get_or xs j d) ≡ false
-blanks_at [] j d h lt = absurd (omega arith)
-blanks_at (None ∷ xs) zero d h lt = refl
-blanks_at (None ∷ xs) (suc j) d h lt = blanks_at xs j d h (omega arith)
-blanks_at (Some x ∷ xs) j d h lt = absurd (both_ways false refl h)
-
--- the hubs stand before the blanks
-pub hubs_first : (low sites : ℕ) (xs : List (Option ℕ)) → ordered low sites xs ≡ true → IsPartitionedBy is_some xs
-hubs_first low sites [] h i j d le lt some = absurd (omega arith)
-hubs_first low sites (None ∷ xs) h i zero d le lt some = absurd (both_ways false refl some)
-hubs_first low sites (None ∷ xs) h i (suc j) d le lt some = absurd (both_ways (is_some (get_or xs j d)) (blanks_at xs j d h (omega arith)) some)
-hubs_first low sites (Some x ∷ xs) h zero j d le lt some = refl
-hubs_first low sites (Some x ∷ xs) h (suc i) zero d le lt some = absurd (omega arith)
-hubs_first low sites (Some x ∷ xs) h (suc i) (suc j) d le lt some = hubs_first (suc x) sites xs (and_parts _ _ h).1 i j d (omega arith) (omega arith) some
-
--- the place where they end is their number
-pub hubs_counted : (xs : List (Option ℕ)) (i : ℕ) → i ≤ length xs → IsPartitionPoint (λ y. is_some y ≡ true) (λ y. is_some y ≡ false) xs i → i ≡ length (listed xs)
-hubs_counted [] i le p = omega arith
-hubs_counted (None ∷ xs) zero le p = refl
-hubs_counted (None ∷ xs) (suc i) le p = absurd (both_ways false refl (p.0 0 None (omega arith) (omega arith)))
-hubs_counted (Some x ∷ xs) zero le p = absurd (both_ways true (p.1 0 None (omega arith) (omega arith)) refl)
-hubs_counted (Some x ∷ xs) (suc i) le p =
-    ap suc (hubs_counted xs i (omega arith) ((λ k d low high. p.0 (suc k) d (omega arith) (omega arith)), (λ k d low high. p.1 (suc k) d (omega arith) (omega arith))))
 
 -- ---- ascending hubs
 
@@ -58,7 +30,7 @@ rising low sites (h ∷ hs) c (suc i) (suc j) le lt = rising (suc h) sites hs c.
 -- ---- the place of a site
 
 -- a place in the rest of a list, counted from the list's start
-abbrev onward : Result ℕ ℕ → Result ℕ ℕ
+abbrev pub onward : Result ℕ ℕ → Result ℕ ℕ
 onward (Ok i) = Ok (suc i)
 onward (Err i) = Err (suc i)
 

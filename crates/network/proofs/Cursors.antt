@@ -18,11 +18,11 @@ left_cons : {V : Type 0} (l : Link V) (ls others : List (Link V)) → Absent l.m
 left_cons l ls [] h = refl
 left_cons l ls (m ∷ ms) h = grind (arith, nat_tests, h.0)
 
-left_first : {V : Type 0} (ls : List (Link V)) → left_at ls (first ls) ≡ ls
+pub left_first : {V : Type 0} (ls : List (Link V)) → left_at ls (first ls) ≡ ls
 left_first [] = refl
 left_first (l ∷ ls) = grind (arith, nat_tests)
 
-left_after : {V : Type 0} (ls : List (Link V)) → Apart ls → (m : ℕ) → left_at ls (after ls m) ≡ rest (from ls m)
+pub left_after : {V : Type 0} (ls : List (Link V)) → Apart ls → (m : ℕ) → left_at ls (after ls m) ≡ rest (from ls m)
 left_after [] h m = refl
 left_after (l ∷ ls) h m =
     elim (eqb l.mark m) as (λ b. left_at (l ∷ ls) (first (rest (cond b (l ∷ ls) (from ls m)))) ≡ rest (cond b (l ∷ ls) (from ls m))) [
@@ -42,7 +42,7 @@ from_among (x ∷ xs) m l h =
 
 -- A round: where the next link is o, it is the first of what is left.
 module _ {V : Type 0} (ls : List (Link V)) (apart : Apart ls) where
-  abbrev Onward : Option (Link V) → Type 0
+  abbrev pub Onward : Option (Link V) → Type 0
   Onward o = o ≡ first (left_at ls o)
 
   -- what is left is the next link, and what follows it

@@ -39,7 +39,7 @@ all_altered P f h zero (x ∷ xs) a = (h x a.0, a.1)
 all_altered P f h (suc n) (x ∷ xs) a = (a.0, all_altered P f h n xs a.1)
 
 -- the meaning stays valid, with the same number of sites
-abbrev Stays : {V : Type 0} → Meaning V → Meaning V → Type 0
+abbrev pub Stays : {V : Type 0} → Meaning V → Meaning V → Type 0
 Stays m m' = Valid m' × (m'.sites ≡ m.sites)
 
 module _ {V : Type 0} (m : Meaning V) (valid : Valid m) where

@@ -16,7 +16,7 @@ module _ {V : Type 0} (k : Algebra V) where
   pub less_at_most : (x y z : V) → k.less x y ≡ true → AtMost k y z → k.less x z ≡ true
   less_at_most x y z p q = grind (arith, k.trans x y z, k.trans y z x, k.irrefl, k.same y z)
 
-  at_most_less : (x y z : V) → AtMost k x y → k.less y z ≡ true → k.less x z ≡ true
+  pub at_most_less : (x y z : V) → AtMost k x y → k.less y z ≡ true → k.less x z ≡ true
   at_most_less x y z p q = grind (arith, k.trans x y z, k.same y x)
 
   pub at_most_trans : (x y z : V) → AtMost k x y → AtMost k y z → AtMost k x z

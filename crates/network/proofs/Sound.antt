@@ -21,7 +21,7 @@ nowhere_told sites u i (x ∷ xs) out h =
 -- ---- the link at a place
 
 -- x stands at place n of the list
-abbrev Placed : {X : Type 0} → List X → ℕ → X → Type 0
+abbrev pub Placed : {X : Type 0} → List X → ℕ → X → Type 0
 Placed [] n x = ⊥
 Placed (y ∷ ys) zero x = y ≡ x
 Placed (y ∷ ys) (suc n) x = Placed ys n x
@@ -44,7 +44,7 @@ placed_all P (z ∷ zs) (suc n) x p a = placed_all P zs n x p a.1
 -- ---- a link that is told, and the place that it stands at
 
 -- l is the standing link x of the list, at its place, told at the site u: its number is i more than the place
-record Told {V : Type 0} (u : ℕ) (l : Link V) (i : ℕ) (xs : List (Given V)) : Type 0 where
+pub record Told {V : Type 0} (u : ℕ) (l : Link V) (i : ℕ) (xs : List (Given V)) : Type 0 where
   pub place : ℕ
   pub item : Given V
   pub placed : Placed xs place item
@@ -65,7 +65,7 @@ told_later u i l x xs r =
       touching = r.touching;
     }
 
-told_at : {V : Type 0} (u i : ℕ) (l : Link V) (xs : List (Given V)) → Memᴰ l (links_from u i xs) → Told u l i xs
+pub told_at : {V : Type 0} (u i : ℕ) (l : Link V) (xs : List (Given V)) → Memᴰ l (links_from u i xs) → Told u l i xs
 told_at u i l [] m = absurd (Memᴰ.not-nil m)
 told_at u i l (x ∷ xs) m =
     ⊎_elim
@@ -79,7 +79,7 @@ told_at u i l (x ∷ xs) m =
     (λ f. told_later u i l x xs (told_at u (suc i) l xs (subst (λ ls. Memᴰ l ls) (cond-false (x.standing && touches u x) _ _ f) m)))
     (cases_Bool (x.standing && touches u x))
 
-at_told : {V : Type 0} (u i n : ℕ) (x : Given V) (xs : List (Given V)) → Placed xs n x → x.standing ≡ true → touches u x ≡ true → Memᴰ (told u (i + n) x) (links_from u i xs)
+pub at_told : {V : Type 0} (u i n : ℕ) (x : Given V) (xs : List (Given V)) → Placed xs n x → x.standing ≡ true → touches u x ≡ true → Memᴰ (told u (i + n) x) (links_from u i xs)
 at_told u i n x [] p s t = absurd p
 at_told u i zero x (y ∷ ys) p s t =
     let here : (y.standing && touches u y) ≡ true = and_from _ _ (ap (λ z. z.standing) p ∙ s) (ap (touches u) p ∙ t) in

@@ -1,4 +1,8 @@
 // The links at a site, told one by one.
+ghost use Rattle.network.specs.Links.{first, left_at};
+ghost use Rattle.std.specs.Coded.{Coded-set};
+ghost use Rattle.std.specs.Prelude.{◌≡◌};
+
 use crate::Network;
 use crate::link::Link;
 
@@ -8,6 +12,8 @@ pub struct Links<'n, N: Network> {
     network: &'n N,
     site: u32,
     next: Option<Link<N::W>>,
+    // Known to the logic of every round, so that `next` asks nothing of its caller.
+    ghost ready: { next ≡ first (left_at ((N.Network.graph (N.Network.means network.now)).links site) next) } by { Coded-set next-code next (first (left_at ((N.Network.graph (N.Network.means network.now)).links site) next)) },
 }
 
 impl<'n, N: Network> Links<'n, N> {
@@ -28,12 +34,10 @@ impl<'n, N: Network> Links<'n, N> {
 }
 
 impl<'n, N: Network> Iterator for Links<'n, N> {
-    ghost use Rattle.network.specs.Rounds.{untold, Ready};
+    ghost use Rattle.network.specs.Rounds.{untold};
     ghost use Rattle.std.specs.Iterator.{YieldsFirst, item_count};
 
     type Item = Link<N::W>;
-
-    ghost can_next = { Ready (λ net u. (N.Network.graph (N.Network.means net)).links u) };
 
     ghost next_gives = { YieldsFirst (untold (λ net u. (N.Network.graph (N.Network.means net)).links u)) };
 

@@ -58,7 +58,7 @@ module _ {V : Type 0} (rs : List (LinkRecord V)) (u m : ℕ) where
     pub after_apart : (r.one ≡ u → ⊥) × (r.other ≡ u → ⊥) → None ≡ after (links_from u 0 (map given_of rs)) m
     after_apart h = after_missing (and_right r.standing _ (or_from _ _ (ne_eqb r.one u h.0) (ne_eqb r.other u h.1)))
 
-    after_met : r.standing ≡ true → meets u (ends_of r) ≡ true → after (links_from u 0 (map given_of rs)) m ≡ first (links_on rs u (suc m))
+    pub after_met : r.standing ≡ true → meets u (ends_of r) ≡ true → after (links_from u 0 (map given_of rs)) m ≡ first (links_on rs u (suc m))
     after_met s t =
         let more = links_on rs u (suc m) in
         ap (λ l. first (rest l))

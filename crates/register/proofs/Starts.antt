@@ -7,7 +7,7 @@ use Rattle.std.proofs.lemmas.Grind.{common_steps}
 
 -- ---- sizes without a fault
 
-held_sites : (sites site_memory places link_memory : ℕ) → size_fault sites site_memory places link_memory ≡ None → sites ≤ site_memory
+pub held_sites : (sites site_memory places link_memory : ℕ) → size_fault sites site_memory places link_memory ≡ None → sites ≤ site_memory
 held_sites s sm p pm e = grind (arith, common_steps)
 
 -- ---- the meaning of a register that was made over the memory of another, where its sizes have no fault

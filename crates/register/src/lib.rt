@@ -30,3 +30,42 @@ pub struct Register<'a, W> {
     ghost ones: { Ones (take used records.now) } by { Prim.hlevel props },
     ghost others: { Others (take used records.now) } by { Prim.hlevel props },
 }
+
+#[cfg(test)]
+mod tests {
+    use crate::Register;
+    use crate::making::RegisterSizes;
+    use crate::memory::{LinkRecord, SiteChain};
+    use network::Network;
+    use network::changes::RegisterChange;
+    use network::link::Link;
+    use network::links::Links;
+    use weight::delay::Delay;
+
+    // Goes on with a round that it is handed: `next` asks nothing of its caller, so this is proved without a condition.
+    fn told_next<N: Network>(round: &mut Links<'_, N>) -> Option<Link<N::W>> {
+        round.next()
+    }
+
+    #[test]
+    fn round_is_handed_on(rt: HostRuntime) {
+        let mut chains = [SiteChain::default(); 2];
+        let mut records = [LinkRecord::<Delay>::default(); 2];
+        let mut register = Register::new(
+            RegisterSizes {
+                sites: 2,
+                places: 2,
+            },
+            &mut chains,
+            &mut records,
+        );
+        let first = register.change(RegisterChange::Link(0, 1, 5));
+        let second = register.change(RegisterChange::Link(1, 0, 7));
+        assert!(rt; first.is_ok() && second.is_ok());
+        let mut round = Links::at(&register, 0);
+        assert_eq!(rt; told_next(&mut round).map(|link| link.mark), Some(0));
+        assert_eq!(rt; told_next(&mut round).map(|link| link.mark), Some(1));
+        assert!(rt; told_next(&mut round).is_none());
+        assert!(rt; told_next(&mut round).is_none());
+    }
+}

@@ -58,6 +58,7 @@ impl<'a, W: Weight> Book<'a, W> {
                 hub_places: 0,
                 entry_places: 0,
             },
+            hub_count: 0,
             built: false,
             site_places,
             hub_list,
@@ -84,6 +85,7 @@ impl<'a, W: Weight> Book<'a, W> {
         let hub_list = &mut *self.hub_list;
         overwrite(&mut hub_list[..sizes.hub_places as usize], None);
         self.sizes = sizes;
+        self.hub_count = 0;
         self.empty();
         Ok(())
     }

@@ -14,15 +14,14 @@ impl<W: Weight> Book<'_, W> {
     pub(crate) fn hubs(&self) -> u32
         ensures { result ≡ length (hubs_of (state self.now)) }
     {
-        let hub_list = &self.hub_list[..self.sizes.hub_places as usize];
-        hub_list.partition_point(|hub| hub.is_some()) as u32
+        self.hub_count
     }
 
     // The place of the site among the hubs, or the place where it would come.
     fn find_hub(&self, site: u32) -> Result<usize, usize>
         ensures { result ≡ sought site (hubs_of (state self.now)) }
     {
-        self.hub_list[..self.hubs() as usize].binary_search(&Some(site))
+        self.hub_list[..self.hub_count as usize].binary_search(&Some(site))
     }
 
     // Names the site as a hub.
@@ -37,7 +36,10 @@ impl<W: Weight> Book<'_, W> {
         if hubs >= self.sizes.hub_places {
             return Err(IndexFault::HubsFull(self.sizes.hub_places));
         }
-        put(self.hub_list, hubs as usize, at, site);
+        // Written apart from the book, whose facts hold again once the hubs are counted.
+        let hub_list = &mut *self.hub_list;
+        put(hub_list, hubs as usize, at, site);
+        self.hub_count = hubs + 1;
         self.unbuild();
         Ok(hubs + 1)
     }
@@ -51,7 +53,9 @@ impl<W: Weight> Book<'_, W> {
             return Err(IndexFault::NoHub(site));
         };
         let hubs = self.hubs();
-        take_out(self.hub_list, hubs as usize, at);
+        let hub_list = &mut *self.hub_list;
+        take_out(hub_list, hubs as usize, at);
+        self.hub_count = hubs - 1;
         self.unbuild();
         Ok(hubs - 1)
     }

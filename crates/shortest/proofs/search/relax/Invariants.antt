@@ -7,6 +7,5 @@ use Rattle.shortest.proofs.search.relax.Given as goal
 abbrev pub invariant-loop-link : goal.invariant-loop-link
 invariant-loop-link g l =
     let left = untold (λ net u. (g.N.Network.graph (g.N.Network.means net)).links u) l.link-iterator in
-    (goal.iterator-loop-link g).can_next l.link-iterator
-    × UnderWay g.N.W.Weight.algebra (g.N.Network.graph (g.N.Network.means l.network)) l.cut (state l.initial.queue) l.from (state l.queue) left
+    UnderWay g.N.W.Weight.algebra (g.N.Network.graph (g.N.Network.means l.network)) l.cut (state l.initial.queue) l.from (state l.queue) left
     × (l.queue.places.ghost_name ≡ l.initial.queue.places.ghost_name)
